@@ -1,0 +1,3 @@
+pub mod Profiles
+pub mod Joins
+pub mod Laws

@@ -1,0 +1,12 @@
+use mathlib.Core.Path.{_≡_, _∙_, sym, ap}
+use Prim.Native.Nat.{_/_, _^_}
+use native.Mathlib.Omega.{arith}
+use lib.Count.{ones}
+use Rattle.sets.proofs.Bits.{ones-rising}
+use Rattle.sets.proofs.small_set.count_bits.Needs as need
+
+pub returns : need.returns
+returns c =
+    let n = c .args .bits in
+    let whole : n / 2 ^ 0 ≡ n = omega arith in
+    sym (ap ones whole) ∙ ones-rising 64 n 0 (omega arith)

@@ -1,0 +1,4 @@
+pub mod Bits
+pub mod Sets
+pub mod Laws
+pub mod Elements

@@ -1,0 +1,88 @@
+ghost use mathlib.Core.Path.{_≡_};
+ghost use Prim.Native.Nat.{_+_, _-_, _*_, _/_, _%_, _^_, _<_, _≤_};
+ghost use lib.Bits.{bitOr};
+ghost use lib.ListN.{length};
+ghost use Rattle.sets.specs.Bits.{bit, rising};
+ghost use Rattle.sets.specs.Sets.{has, none, single-answer, insert-answer, union, subset, count};
+
+// A set of numbers below 64. What it means is which numbers it has.
+#[derive(Clone, Copy, PartialEq, Eq)]
+pub struct SmallSet {
+    bits: u64,
+}
+
+// Whether bit i of a number is set.
+fn bit_at(bits: u64, i: u16) -> bool
+    ensures { λ r. ⌜ r ≡ bit bits i ⌝ }
+{
+    i < 64 && (bits >> i) & 1 == 1
+}
+
+// How many of the lowest 64 bits are set.
+fn count_bits(bits: u64) -> u32
+    ensures { λ r. ⌜ r ≡ length (rising (bit bits) 0 64) ⌝ }
+{
+    bits.count_ones()
+}
+
+// The number with bit i set too.
+fn with_bit(bits: u64, i: u16) -> u64
+    requires { ⌜ i < 64 ⌝ }
+    ensures { λ r. ⌜ r ≡ bitOr bits (2 ^ i) ⌝ }
+{
+    bits | 1u64 << i
+}
+
+impl SmallSet {
+    pub fn empty() -> SmallSet
+        ensures { λ r. ⌜ r ≡ none ⌝ }
+    {
+        SmallSet { bits: 0 }
+    }
+
+    // The set of `i` alone, or none where `i` is not below 64.
+    pub fn single(i: u16) -> Option<SmallSet>
+        ensures { λ r. ⌜ r ≡ single-answer i ⌝ }
+    {
+        SmallSet::empty().insert(i)
+    }
+
+    // The set with `i` too, or none where `i` is not below 64.
+    pub fn insert(self, i: u16) -> Option<SmallSet>
+        ensures { λ r. ⌜ r ≡ insert-answer self i ⌝ }
+    {
+        if i >= 64 {
+            return None;
+        }
+        Some(SmallSet {
+            bits: with_bit(self.bits, i),
+        })
+    }
+
+    pub fn contains(self, i: u16) -> bool
+        ensures { λ r. ⌜ r ≡ has self i ⌝ }
+    {
+        bit_at(self.bits, i)
+    }
+
+    pub fn len(self) -> u32
+        ensures { λ r. ⌜ r ≡ count self ⌝ }
+    {
+        count_bits(self.bits)
+    }
+
+    pub fn union(self, other: SmallSet) -> SmallSet
+        ensures { λ r. ⌜ r ≡ union self other ⌝ }
+    {
+        SmallSet {
+            bits: self.bits | other.bits,
+        }
+    }
+
+    // Whether `other` has every number of this set.
+    pub fn is_subset(self, other: SmallSet) -> bool
+        ensures { λ r. ⌜ r ≡ subset self other ⌝ }
+    {
+        self.bits & other.bits == self.bits
+    }
+}
