@@ -85,6 +85,13 @@ module _ (c : Chart) where
         (λ x h. crosses-tells (layout c .attributes) (x .left) (x .right) h) (layout c .links) (c .crossed);
   }
 
+  -- an attribute belongs to one of the first 32 relations
+  pub attribute-bound : (a : ℕ) → Cases (nth (layout c .attributes) a) (Unit {0}) (λ x. x .relation < 32)
+  attribute-bound a =
+      told-more (nth (layout c .attributes) a) (λ x. proper (c .«relation_count») x ≡ true) (λ x. x .relation < 32)
+      (λ x h. omega (arith, ltb-true (x .relation) (c .«relation_count») (and-parts (ltb (x .relation) (c .«relation_count»)) (ltb 0 (x .width)) h .0), c .counted .0))
+      (all-at (proper (c .«relation_count»)) (layout c .attributes) (c .owned) a)
+
   -- the ends of a link are below 64
   pub link-bound : (k : ℕ) → Cases (nth (layout c .links) k) (Unit {0}) (λ x. (x .left < 64) × (x .right < 64))
   link-bound k =

@@ -8,7 +8,7 @@ use Rattle.std.specs.declared.option.Option.{Option}
 use Rattle.std.specs.Options.{mapped, valueOr}
 use Rattle.std.specs.shelf.Maps.{nth}
 use Rattle.sets.specs.declared.small_set.SmallSet.{SmallSet}
-use Rattle.sets.specs.Sets.{none, single, union}
+use Rattle.sets.specs.Sets.{none, single, union, subset, below}
 use Rattle.chart.specs.declared.parts.Attribute.{Attribute}
 use Rattle.chart.specs.declared.parts.Link.{Link}
 use Rattle.chart.specs.declared.parts.Grade.{Grade}
@@ -38,6 +38,13 @@ places p from (x ∷ xs) = cond (p x) (union (single from) (places p (from + 1) 
 -- the attributes of a relation; none of them where it is not known
 abbrev pub attributes-of : Layout → ℕ → SmallSet
 attributes-of l r = places (λ x. eqb (x .relation) r) 0 (l .attributes)
+
+-- whether every attribute of a set is known; whether every link is
+abbrev pub attributes-known : Layout → SmallSet → Bool
+attributes-known l s = subset s (below (length (l .attributes)))
+
+abbrev pub links-known : Layout → SmallSet → Bool
+links-known l s = subset s (below (length (l .links)))
 
 -- where the grade of the line between two servers stands: the same place both ways
 abbrev pub line-place : ℕ → ℕ → ℕ

@@ -1,14 +1,14 @@
 ghost use mathlib.Core.Path.{_≡_};
 ghost use mathlib.Core.Bool.{true};
 ghost use lib.Dec.{eqb};
-ghost use Rattle.sets.specs.Sets.{single, union};
+ghost use Rattle.sets.specs.Sets.{single, union, subset, below};
 ghost use Prim.Native.Nat.{ℕ, _<_, _≤_, _+_, _*_};
 ghost use lib.ListN.{length, take, getD};
 ghost use Rattle.std.specs.Options.{Cases, isSome};
 ghost use Rattle.std.specs.shelf.Maps.{nth};
 ghost use Rattle.chart.specs.declared.parts.Grade.the-variants.{Public};
 ghost use Rattle.chart.specs.Layout.{relation-of};
-ghost use Rattle.chart.specs.Lookup.{server-of, width-of, ends, ends-of, attributes-of, places, line-place, line-known, grade-of};
+ghost use Rattle.chart.specs.Lookup.{server-of, width-of, ends, ends-of, attributes-of, attributes-known, links-known, places, line-place, line-known, grade-of};
 ghost use Rattle.chart.specs.Charts.{layout};
 use crate::parts::Attribute;
 use crate::parts::Grade;
@@ -46,6 +46,14 @@ fn link_at(chart: &Chart, link: u16) -> Option<Link>
     ensures bound { λ r. ⌜ Cases r (Unit {0}) (λ x. (x .left < 64) × (x .right < 64)) ⌝ }
 {
     entry(&chart.links, chart.link_count, link)
+}
+
+// An attribute by its number. It belongs to one of at most 32 relations.
+fn attribute_at(chart: &Chart, attribute: u16) -> Option<Attribute>
+    ensures value { λ r. ⌜ r ≡ nth (layout (now (chart .entry)) .attributes) attribute ⌝ }
+    ensures bound { λ r. ⌜ Cases r (Unit {0}) (λ x. x .relation < 32) ⌝ }
+{
+    entry(&chart.attributes, chart.attribute_count, attribute)
 }
 
 // The places of the attributes of a relation.
@@ -97,6 +105,17 @@ pub(crate) fn is_line(chart: &Chart, a: u16, b: u16) -> bool
     a < chart.servers && b < chart.servers && a != b
 }
 
+// Whether every number of a set is below `count`.
+fn all_below(set: SmallSet, count: usize) -> bool
+    requires { ⌜ count ≤ 64 ⌝ }
+    ensures { λ r. ⌜ r ≡ subset set (below count) ⌝ }
+{
+    match SmallSet::below(count as u16) {
+        Some(known) => set.is_subset(known),
+        None => unreachable(),
+    }
+}
+
 impl Chart {
     // How many servers there are.
     pub fn servers(&self) -> u16
@@ -114,9 +133,10 @@ impl Chart {
 
     // The relation to which an attribute belongs.
     pub fn relation_of(&self, attribute: u16) -> Option<u16>
-        ensures { λ r. ⌜ r ≡ relation-of (layout (now (self .entry))) attribute ⌝ }
+        ensures value { λ r. ⌜ r ≡ relation-of (layout (now (self .entry))) attribute ⌝ }
+        ensures bound { λ r. ⌜ Cases r (Unit {0}) (λ x. x < 32) ⌝ }
     {
-        let found = entry(&self.attributes, self.attribute_count, attribute)?;
+        let found = attribute_at(self, attribute)?;
         Some(found.relation)
     }
 
@@ -124,7 +144,7 @@ impl Chart {
     pub fn width(&self, attribute: u16) -> u16
         ensures { λ r. ⌜ r ≡ width-of (layout (now (self .entry))) attribute ⌝ }
     {
-        match entry(&self.attributes, self.attribute_count, attribute) {
+        match attribute_at(self, attribute) {
             Some(found) => found.width,
             None => 0,
         }
@@ -144,6 +164,20 @@ impl Chart {
         ensures { λ r. ⌜ r ≡ attributes-of (layout (now (self .entry))) relation ⌝ }
     {
         places_of(&self.attributes[0..self.attribute_count], relation)
+    }
+
+    // Whether every attribute of a set is known.
+    pub fn knows_attributes(&self, attributes: SmallSet) -> bool
+        ensures { λ r. ⌜ r ≡ attributes-known (layout (now (self .entry))) attributes ⌝ }
+    {
+        all_below(attributes, self.attribute_count)
+    }
+
+    // Whether every link of a set is known.
+    pub fn knows_links(&self, links: SmallSet) -> bool
+        ensures { λ r. ⌜ r ≡ links-known (layout (now (self .entry))) links ⌝ }
+    {
+        all_below(links, self.link_count)
     }
 
     // The grade of the line between two servers, the same both ways; public where there is no such line.

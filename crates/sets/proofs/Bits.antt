@@ -3,17 +3,17 @@ use mathlib.Core.Path.{_≡_, refl, sym, ap, _∙_}
 use mathlib.Core.Bool.{Bool, true, false, cond, _&&_, _||_}
 use mathlib.Core.List.{List, [], _∷_}
 use mathlib.Core.Logic.{inl, inr}
-use Prim.Native.Nat.{ℕ, zero, suc, _+_, _*_, _/_, _%_, _^_, _<_, _≤_, min, max}
+use Prim.Native.Nat.{ℕ, zero, suc, _+_, _-_, _*_, _/_, _%_, _^_, _<_, _≤_, min, max}
 use native.Mathlib.Nat.{div-eq-of-lt, zero-div}
 use native.Mathlib.Numerals.{add-one}
 use native.Mathlib.Omega.{arith}
 use lib.Bits.{bitAnd, bitOr, and-step, or-step, and-shr, or-shr, and-zero-l}
 use lib.Count.{ones, ones-step}
-use lib.Dec.{eqb}
+use lib.Dec.{eqb, ltb}
 use lib.ListN.{length}
 use lib.Pow.{pow-mono}
 use Rattle.std.proofs.shelf.Bits.{pow-add, pow-pos, pow-below, shr-shr}
-use Rattle.std.proofs.shelf.Tests.{cases-eq, eq-eqb, ne-eqb}
+use Rattle.std.proofs.shelf.Tests.{cases-eq, eq-eqb, ne-eqb, lt-ltb, le-ltb}
 use Rattle.std.proofs.shelf.Ways.{tells}
 use Rattle.sets.specs.Bits.{bit, rising}
 
@@ -95,6 +95,21 @@ bit-power (suc k) (suc i) =
     let d : digit (2 ^ suc k) (suc i) ≡ digit (2 ^ k) i =
     ap (λ j. digit (2 ^ suc k) j) (sym (add-one i)) ∙ sym (half-first (2 ^ suc k) i) ∙ ap (λ n. digit n i) half in
     ap (λ n. eqb n 1) d ∙ bit-power k i ∙ grind (arith, tells)
+
+-- bit i of the number whose lowest n bits are set
+pub bit-low : (n i : ℕ) → bit (2 ^ n - 1) i ≡ ltb i n
+bit-low zero i = bit-none i ∙ sym (le-ltb i 0 (omega arith))
+bit-low (suc n) zero =
+    let e : 2 ^ suc n ≡ 2 * 2 ^ n = ap (λ m. 2 ^ m) (sym (add-one n)) ∙ double n in
+    let p = pow-pos n in
+    eq-eqb (digit (2 ^ suc n - 1) 0) 1 (omega arith) ∙ sym (lt-ltb 0 (suc n) (omega arith))
+bit-low (suc n) (suc i) =
+    let e : 2 ^ suc n ≡ 2 * 2 ^ n = ap (λ m. 2 ^ m) (sym (add-one n)) ∙ double n in
+    let p = pow-pos n in
+    let half : (2 ^ suc n - 1) / 2 ≡ 2 ^ n - 1 = omega arith in
+    let d : digit (2 ^ suc n - 1) (suc i) ≡ digit (2 ^ n - 1) i =
+      ap (λ j. digit (2 ^ suc n - 1) j) (sym (add-one i)) ∙ sym (half-first (2 ^ suc n - 1) i) ∙ ap (λ m. digit m i) half in
+    ap (λ m. eqb m 1) d ∙ bit-low n i ∙ grind (arith, tells)
 
 -- the bits that are set, counted, are the places that have one
 pub ones-rising : (k n from : ℕ) → n / 2 ^ from < 2 ^ k → ones (n / 2 ^ from) ≡ length (rising (bit n) from k)

@@ -12,12 +12,12 @@ use lib.ListN.{length, getD}
 use Rattle.std.specs.Orderings.{Decides}
 use Rattle.std.specs.shelf.Lists.{All, Has}
 use Rattle.std.proofs.shelf.Elements.{all-weaker, all-has}
-use Rattle.std.proofs.shelf.Tests.{eqb-true, eq-eqb, or-cases, or-left, or-right, and-parts, cases-eq, both-ways}
+use Rattle.std.proofs.shelf.Tests.{eqb-true, eq-eqb, or-cases, or-left, or-right, and-parts, and-from, cases-eq, both-ways}
 use Rattle.sets.specs.declared.small_set.SmallSet.{SmallSet}
 use Rattle.sets.specs.Bits.{bit, rising}
-use Rattle.sets.specs.Sets.{has, none, single, union, subset, members, members-from}
+use Rattle.sets.specs.Sets.{has, none, single, union, subset, disjoint, same, members, members-from}
 use Rattle.sets.specs.Laws.{Laws, Within, Rises}
-use Rattle.sets.proofs.Bits.{bit-or, bit-and, bit-none, bit-power, same-bits}
+use Rattle.sets.proofs.Bits.{bit-or, bit-and, bit-none, bit-power, bit-low, same-bits}
 
 abbrev of-bits : ℕ → SmallSet
 of-bits n = record { bits = n }
@@ -45,6 +45,27 @@ pub has-subset : (s t : SmallSet) → Within s t → subset s t ≡ true
 has-subset s t within =
     eq-eqb (bitAnd (s .bits) (t .bits)) (s .bits)
     (same-bits (bitAnd (s .bits) (t .bits)) (s .bits) (λ i. bit-and (s .bits) (t .bits) i ∙ and-first (has s i) (has t i) (within i)))
+
+and-false : (a b : Bool) → (a ≡ true → b ≡ true → ⊥) → (a && b) ≡ false
+and-false true true h = absurd (h refl refl)
+and-false true false h = refl
+and-false false b h = refl
+
+pub disjoint-has : (s t : SmallSet) → disjoint s t ≡ true → (i : ℕ) → has s i ≡ true → has t i ≡ true → ⊥
+disjoint-has s t h i in-s in-t =
+    let e = eqb-true (bitAnd (s .bits) (t .bits)) 0 h in
+    both-ways (has none i) (bit-none i) (ap (λ n. bit n i) (sym e) ∙ bit-and (s .bits) (t .bits) i ∙ and-from (has s i) (has t i) in-s in-t)
+
+pub has-disjoint : (s t : SmallSet) → ((i : ℕ) → has s i ≡ true → has t i ≡ true → ⊥) → disjoint s t ≡ true
+has-disjoint s t h =
+    eq-eqb (bitAnd (s .bits) (t .bits)) 0
+    (same-bits (bitAnd (s .bits) (t .bits)) 0 (λ i. bit-and (s .bits) (t .bits) i ∙ and-false (has s i) (has t i) (h i) ∙ sym (bit-none i)))
+
+pub same-is : (s t : SmallSet) → same s t ≡ true → s ≡ t
+same-is s t h = ap of-bits (eqb-true (s .bits) (t .bits) h)
+
+pub is-same : (s t : SmallSet) → s ≡ t → same s t ≡ true
+is-same s t e = eq-eqb (s .bits) (t .bits) (ap (λ (u : SmallSet). u .bits) e)
 
 or-comm : (a b : Bool) → (a || b) ≡ (b || a)
 or-comm true true = refl
@@ -164,6 +185,9 @@ laws-hold = record {
   single-has = single-has;
   union-has = union-has;
   subset-means = λ s t. (subset-has s t, has-subset s t);
+  disjoint-means = λ s t. (disjoint-has s t, has-disjoint s t);
+  same-means = λ s t. (same-is s t, is-same s t);
+  below-has = bit-low;
   union-comm = union-comm;
   union-assoc = union-assoc;
   union-self = union-self;

@@ -3,11 +3,11 @@ use mathlib.Core.Path.{_≡_}
 use mathlib.Core.Bool.{Bool, true, false, _||_}
 use mathlib.Core.List.{List, [], _∷_}
 use Prim.Native.Nat.{ℕ, _<_}
-use lib.Dec.{eqb}
+use lib.Dec.{eqb, ltb}
 use Rattle.std.specs.Orderings.{Decides}
 use Rattle.std.specs.shelf.Lists.{All, Has}
 use Rattle.sets.specs.declared.small_set.SmallSet.{SmallSet}
-use Rattle.sets.specs.Sets.{has, none, single, union, subset, members}
+use Rattle.sets.specs.Sets.{has, none, single, union, subset, disjoint, same, below, members}
 
 -- every number of s is one of t
 abbrev pub Within : SmallSet → SmallSet → Type 0
@@ -25,6 +25,9 @@ pub record Laws : Type 0 where
   pub single-has : (k i : ℕ) → has (single k) i ≡ eqb k i
   pub union-has : (s t : SmallSet) (i : ℕ) → has (union s t) i ≡ (has s i || has t i)
   pub subset-means : (s t : SmallSet) → Decides (subset s t) (Within s t)
+  pub disjoint-means : (s t : SmallSet) → Decides (disjoint s t) ((i : ℕ) → has s i ≡ true → has t i ≡ true → ⊥)
+  pub same-means : (s t : SmallSet) → Decides (same s t) (s ≡ t)
+  pub below-has : (n i : ℕ) → has (below n) i ≡ ltb i n
   pub union-comm : (s t : SmallSet) → union s t ≡ union t s
   pub union-assoc : (s t u : SmallSet) → union (union s t) u ≡ union s (union t u)
   pub union-self : (s : SmallSet) → union s s ≡ s

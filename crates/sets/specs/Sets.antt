@@ -3,7 +3,7 @@ use mathlib.Core.Bool.{Bool, true, false, cond}
 use mathlib.Core.List.{List, [], _∷_}
 use Prim.Native.Nat.{ℕ, _+_, _-_, _^_}
 use lib.Bits.{bitAnd, bitOr}
-use lib.Dec.{eqb, ltb}
+use lib.Dec.{eqb, leb, ltb}
 use lib.ListN.{length}
 use Rattle.std.specs.declared.option.Option.{Option}
 use Rattle.std.specs.declared.option.Option.the-variants.{Some, None}
@@ -28,6 +28,18 @@ union s t = record { bits = bitOr (s .bits) (t .bits) }
 abbrev pub subset : SmallSet → SmallSet → Bool
 subset s t = eqb (bitAnd (s .bits) (t .bits)) (s .bits)
 
+-- whether s and t have no number in common
+abbrev pub disjoint : SmallSet → SmallSet → Bool
+disjoint s t = eqb (bitAnd (s .bits) (t .bits)) 0
+
+-- whether s and t are the same set
+abbrev pub same : SmallSet → SmallSet → Bool
+same s t = eqb (s .bits) (t .bits)
+
+-- the numbers below n
+abbrev pub below : ℕ → SmallSet
+below n = record { bits = 2 ^ n - 1 }
+
 -- the numbers of the set, in rising order
 abbrev pub members : SmallSet → List ℕ
 members s = rising (has s) 0 64
@@ -38,6 +50,9 @@ count s = length (members s)
 -- A set has numbers below 64 only, so one with another number is no set.
 abbrev pub insert-answer : SmallSet → ℕ → Option SmallSet
 insert-answer s i = cond (ltb i 64) (Some (union s (single i))) None
+
+abbrev pub below-answer : ℕ → Option SmallSet
+below-answer n = cond (leb n 64) (Some (below n)) None
 
 abbrev pub single-answer : ℕ → Option SmallSet
 single-answer i = cond (ltb i 64) (Some (single i)) None

@@ -3,7 +3,7 @@ ghost use Prim.Native.Nat.{_+_, _-_, _*_, _/_, _%_, _^_, _<_, _≤_};
 ghost use lib.Bits.{bitOr};
 ghost use lib.ListN.{length};
 ghost use Rattle.sets.specs.Bits.{bit, rising};
-ghost use Rattle.sets.specs.Sets.{has, none, single-answer, insert-answer, union, subset, count};
+ghost use Rattle.sets.specs.Sets.{has, none, single-answer, insert-answer, union, subset, disjoint, same, below-answer, count};
 
 // A set of numbers below 64. What it means is which numbers it has.
 #[derive(Clone, Copy, PartialEq, Eq)]
@@ -33,6 +33,17 @@ fn with_bit(bits: u64, i: u16) -> u64
     bits | 1u64 << i
 }
 
+// The number whose lowest n bits are set.
+fn low_bits(n: u16) -> u64
+    requires { ⌜ n ≤ 64 ⌝ }
+    ensures { λ r. ⌜ r ≡ 2 ^ n - 1 ⌝ }
+{
+    if n == 64 {
+        return u64::MAX;
+    }
+    (1u64 << n) - 1
+}
+
 impl SmallSet {
     pub fn empty() -> SmallSet
         ensures { λ r. ⌜ r ≡ none ⌝ }
@@ -57,6 +68,16 @@ impl SmallSet {
         Some(SmallSet {
             bits: with_bit(self.bits, i),
         })
+    }
+
+    // The numbers below `n`, or none where `n` is over 64.
+    pub fn below(n: u16) -> Option<SmallSet>
+        ensures { λ r. ⌜ r ≡ below-answer n ⌝ }
+    {
+        if n > 64 {
+            return None;
+        }
+        Some(SmallSet { bits: low_bits(n) })
     }
 
     pub fn contains(self, i: u16) -> bool
@@ -84,5 +105,19 @@ impl SmallSet {
         ensures { λ r. ⌜ r ≡ subset self other ⌝ }
     {
         self.bits & other.bits == self.bits
+    }
+
+    // Whether the two sets have no number in common.
+    pub fn is_disjoint(self, other: SmallSet) -> bool
+        ensures { λ r. ⌜ r ≡ disjoint self other ⌝ }
+    {
+        self.bits & other.bits == 0
+    }
+
+    // Whether the two are the same set.
+    pub fn is_same(self, other: SmallSet) -> bool
+        ensures { λ r. ⌜ r ≡ same self other ⌝ }
+    {
+        self.bits == other.bits
     }
 }
