@@ -1,0 +1,4 @@
+pub mod Refusals
+pub mod Relations
+pub mod Trees
+pub mod Rules
