@@ -2,3 +2,4 @@ pub mod Refusals
 pub mod Relations
 pub mod Trees
 pub mod Rules
+pub mod Checked

@@ -46,7 +46,10 @@ pub fn relations_of_link(chart: &Chart, link: u16) -> SmallSet
     ensures { λ r. ⌜ r ≡ link-relations (layout (now (chart .entry))) link ⌝ }
 {
     match chart.ends(link) {
-        Some((left, right)) => attribute_relations(chart, left).union(attribute_relations(chart, right)),
+        Some((left, right)) => attribute_relations(chart, left).union(attribute_relations(
+            chart,
+            right,
+        )),
         None => SmallSet::empty(),
     }
 }

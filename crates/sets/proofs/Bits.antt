@@ -108,7 +108,7 @@ bit-low (suc n) (suc i) =
     let p = pow-pos n in
     let half : (2 ^ suc n - 1) / 2 ≡ 2 ^ n - 1 = omega arith in
     let d : digit (2 ^ suc n - 1) (suc i) ≡ digit (2 ^ n - 1) i =
-      ap (λ j. digit (2 ^ suc n - 1) j) (sym (add-one i)) ∙ sym (half-first (2 ^ suc n - 1) i) ∙ ap (λ m. digit m i) half in
+    ap (λ j. digit (2 ^ suc n - 1) j) (sym (add-one i)) ∙ sym (half-first (2 ^ suc n - 1) i) ∙ ap (λ m. digit m i) half in
     ap (λ m. eqb m 1) d ∙ bit-low n i ∙ grind (arith, tells)
 
 -- the bits that are set, counted, are the places that have one

@@ -65,3 +65,8 @@ members-from s from = rising (has s) from (64 - from)
 abbrev pub next-from : SmallSet → Option ℕ → List ℕ
 next-from s None = []
 next-from s (Some i) = i ∷ members-from s (i + 1)
+
+-- the first number of a list
+abbrev pub head : List ℕ → Option ℕ
+head [] = None
+head (x ∷ xs) = Some x

@@ -4,7 +4,7 @@ ghost use Prim.Native.Nat.{_-_, _+_, _<_, _≤_};
 ghost use lib.ListN.{length};
 ghost use Rattle.std.specs.Options.{Cases};
 ghost use Rattle.std.specs.Vec.{listOf};
-ghost use Rattle.sets.specs.Sets.{members, members-from, next-from};
+ghost use Rattle.sets.specs.Sets.{members, members-from, next-from, head};
 ghost use Rattle.sets.specs.Elements.{rest};
 use crate::small_set::SmallSet;
 
@@ -29,6 +29,14 @@ fn first_from(set: SmallSet, from: u16) -> Option<u16>
 }
 
 impl SmallSet {
+    // The least number of the set.
+    pub fn first(self) -> Option<u16>
+        ensures value { λ r. ⌜ r ≡ head (members self) ⌝ }
+        ensures bound { λ r. ⌜ Cases r (Unit {0}) (λ i. i < 64) ⌝ }
+    {
+        first_from(self, 0)
+    }
+
     // The numbers of the set, in rising order.
     pub fn elements(self) -> Elements
         ensures { λ r. ⌜ rest r ≡ members self ⌝ }

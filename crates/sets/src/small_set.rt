@@ -20,7 +20,8 @@ fn bit_at(bits: u64, i: u16) -> bool
 
 // How many of the lowest 64 bits are set.
 fn count_bits(bits: u64) -> u32
-    ensures { λ r. ⌜ r ≡ length (rising (bit bits) 0 64) ⌝ }
+    ensures value { λ r. ⌜ r ≡ length (rising (bit bits) 0 64) ⌝ }
+    ensures bound { λ r. ⌜ r ≤ 64 ⌝ }
 {
     bits.count_ones()
 }
@@ -87,7 +88,8 @@ impl SmallSet {
     }
 
     pub fn len(self) -> u32
-        ensures { λ r. ⌜ r ≡ count self ⌝ }
+        ensures value { λ r. ⌜ r ≡ count self ⌝ }
+        ensures bound { λ r. ⌜ r ≤ 64 ⌝ }
     {
         count_bits(self.bits)
     }

@@ -8,5 +8,5 @@ use Rattle.chart.proofs.lookup.attribute_at.Needs as need
 pub returns : need.returns
 returns c = record {
   value = c .entry .ensures;
-  bound = subst (λ o. Cases o (Unit {0}) (λ x. x .relation < 32)) (sym (c .entry .ensures)) (attribute-bound (now (c .args .chart)) (c .args .attribute))
+  bound = subst (λ o. Cases o (Unit {0}) (λ x. x .relation < 32)) (sym (c .entry .ensures)) (attribute-bound (now (c .args .chart)) (c .args .attribute));
 }
