@@ -1,2 +1,4 @@
 pub mod Gather
 pub mod Rounds
+pub mod Counts
+pub mod Connected

@@ -3,3 +3,4 @@ pub mod Relations
 pub mod Trees
 pub mod Rules
 pub mod Checked
+pub mod Laws

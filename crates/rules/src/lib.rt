@@ -1,5 +1,6 @@
 // Rules on who may see what, and the questions that a rule has to pass.
 mod check;
+mod laws;
 mod refusal;
 mod rule;
 mod touched;
@@ -7,6 +8,7 @@ mod tree_test;
 mod view;
 
 pub use check::check_rule;
+pub use laws::rule_laws;
 pub use refusal::RuleRefusal;
 pub use rule::Rule;
 pub use touched::relations;

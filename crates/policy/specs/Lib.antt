@@ -1,0 +1,6 @@
+pub mod Refusals
+pub mod Same
+pub mod Reading
+pub mod Books
+pub mod Lawful
+pub mod Viewed
