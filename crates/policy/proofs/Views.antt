@@ -13,11 +13,11 @@ use Rattle.policy.specs.Reading.{exact, view-lets}
 
 pub any-append : {X : Type 0} (p : X → Bool) (xs ys : List X) → any-of p (xs ++ ys) ≡ (any-of p xs || any-of p ys)
 any-append p [] ys = refl
-any-append p (x ∷ xs) ys = go (p x)
+any-append p (x ∷ xs) ys = go (p x) (any-append p xs ys)
   where
-    go : (b : Bool) → (b || any-of p (xs ++ ys)) ≡ ((b || any-of p xs) || any-of p ys)
-    go true = refl
-    go false = any-append p xs ys
+    go : (b : Bool) → any-of p (xs ++ ys) ≡ (any-of p xs || any-of p ys) → (b || any-of p (xs ++ ys)) ≡ ((b || any-of p xs) || any-of p ys)
+    go true rest = refl
+    go false rest = rest
 
 module _ {T : Type 0} (views : T → List View) (items : List T) (server : ℕ) (p : Profile) (i : ℕ) where
   step : (x : T) → i < length items → x ≡ getD items i x → exact (joined views (drop i items)) server p ≡ (exact (views x) server p || exact (joined views (drop (i + 1) items)) server p)
