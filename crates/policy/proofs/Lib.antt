@@ -1,1 +1,4 @@
 pub mod Views
+pub mod Orders
+pub mod Lawfully
+pub mod Entered

@@ -51,7 +51,10 @@ pub fn view_allows(view: &View, server: u16, profile: &Profile) -> bool
 {
     view.server == server
         && view.path.is_same(profile.path)
-        && profile.shown.union(profile.filtered).is_subset(view.attributes)
+        && profile
+            .shown
+            .union(profile.filtered)
+            .is_subset(view.attributes)
 }
 
 // Whether the view that is held, if any, lets a server see a profile.

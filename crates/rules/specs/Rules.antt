@@ -14,13 +14,17 @@ use Rattle.rules.specs.declared.refusal.RuleRefusal.{RuleRefusal}
 use Rattle.rules.specs.declared.refusal.RuleRefusal.the-variants.{Number, Server, Attributes, Path}
 use Rattle.rules.specs.Trees.{tree}
 
+-- whether the links of a view are known, and its path joins its relations into one tree
+unfoldable pub path-joins : Layout → View → Bool
+path-joins l v = links-known l (v .path) && tree l (v .attributes) (v .path)
+
 -- number 1 to 999 (20); server known (21); attributes known, and at least one (22); links known, and the path a tree (23)
 abbrev pub rule-questions : Layout → RuleRecord → List (Bool × RuleRefusal)
 rule-questions l r =
     (leb 1 (r .number) && leb (r .number) 999, Number) ∷
     (server-known l (r .view .server), Server) ∷
     (attributes-known l (r .view .attributes) && not (same (r .view .attributes) none), Attributes) ∷
-    (links-known l (r .view .path) && tree l (r .view .attributes) (r .view .path), Path) ∷ []
+    (path-joins l (r .view), Path) ∷ []
 
 -- the rule, or the first refusal
 abbrev pub rule-answer : Layout → RuleRecord → Result RuleRecord RuleRefusal

@@ -6,12 +6,12 @@ use Rattle.policy.proofs.reading.some_view_allows.Needs as need
 pub returns-then-item-allows : need.returns-then-item-allows
 returns-then-item-allows g c =
     sym (reads-stop (g .T·Viewed .views) (now (c .args .items)) (c .args .server) (now (c .args .profile)) (c .loop-item .item-index)
-      (c .item-item .result) (c .loop-item-test .taken) (c .item-item .is) (sym (c .if-item-allows .ensures tt))) ∙ c .loop-item .inv
+    (c .item-item .result) (c .loop-item-test .taken) (c .item-item .is) (sym (c .if-item-allows .ensures tt))) ∙ c .loop-item .inv
 
 pub loop-item-again : need.loop-item-again
 loop-item-again g c =
     sym (reads-on (g .T·Viewed .views) (now (c .args .items)) (c .args .server) (now (c .args .profile)) (c .loop-item .item-index)
-      (c .item-item .result) (c .loop-item-test .taken) (c .item-item .is) (sym (c .if-item-allows .ensures tt))) ∙ c .loop-item .inv
+    (c .item-item .result) (c .loop-item-test .taken) (c .item-item .is) (sym (c .if-item-allows .ensures tt))) ∙ c .loop-item .inv
 
 pub returns : need.returns
 returns g c =

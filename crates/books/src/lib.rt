@@ -1,0 +1,10 @@
+// Books and lists of rules that are read exactly.
+mod exact;
+mod slots;
+
+pub use exact::ExactBook;
+pub use exact::ExactBooked;
+pub use exact::ExactPolicy;
+pub use slots::free_slot;
+pub use slots::holds_number;
+pub use slots::slot_of;
