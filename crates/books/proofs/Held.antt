@@ -190,3 +190,7 @@ pub granted-held : (slots : List (Option Rule)) → joined slot-views slots ≡ 
 granted-held [] = refl
 granted-held (None ∷ slots) = granted-held slots
 granted-held (Some r ∷ slots) = ap (λ vs. r .given .view ∷ vs) (granted-held slots)
+
+pub granted-records : (records : List RuleRecord) → joined (λ (r : RuleRecord). r .view ∷ []) records ≡ granted records
+granted-records [] = refl
+granted-records (r ∷ records) = ap (λ vs. r .view ∷ vs) (granted-records records)
