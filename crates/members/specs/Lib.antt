@@ -1,0 +1,4 @@
+pub mod Compose
+pub mod Members
+pub mod Laws
+pub mod Table
