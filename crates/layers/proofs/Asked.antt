@@ -3,10 +3,8 @@ use mathlib.Core.Path.{_≡_, refl, sym, ap, _∙_}
 use mathlib.Core.Bool.{Bool, true, false, cond}
 use mathlib.Core.List.{List, [], _∷_, _++_}
 use Prim.Native.Nat.{ℕ, _+_, _<_, _≤_}
-use native.Mathlib.Omega.{arith}
 use lib.Dec.{ltb}
 use lib.ListN.{length, getD, drop}
-use Rattle.std.specs.declared.result.Result.{Result}
 use Rattle.std.specs.declared.result.Result.the-variants.{Ok, Err}
 use Rattle.std.proofs.shelf.Lists.{at-drop-more, at-drop-all}
 use Rattle.std.proofs.shelf.Tests.{ltb-true}
@@ -35,26 +33,26 @@ module _ {E T : Type 0} (t : T) where
       go false k rest = cc
 
 -- a denial that was accepted is one of 32
-pub held-below : (l : Layout) (i : ℕ) (d : Denial) → denial-answer l i d ≡ Ok tt → i < 32
+pub held-below : (l : Layout) (i : ℕ) (d : Denial) → Ok tt ≡ denial-answer l i d → i < 32
 held-below l i d h = ltb-true i 32 (go (fit l d) (ltb i 32) h)
   where
-    go : (a b : Bool) → asked ((a, Unfit) ∷ (b, TooMany) ∷ []) (tt {0}) ≡ Ok (tt {0}) → b ≡ true
+    go : (a b : Bool) → Ok (tt {0}) ≡ asked ((a, Unfit) ∷ (b, TooMany) ∷ []) (tt {0}) → b ≡ true
     go true true k = refl
     go true false k = cc
     go false b k = cc
 
 -- a loop that asks the questions for denial i
 module _ (l : Layout) (ds : List Denial) (i : ℕ) (so-far : asked (denials-questions l i (drop i ds)) tt ≡ denials-answer l ds) where
-  pub refused-at : (d : Denial) (e : LayerRefusal) → i < length ds → denial-answer l i (getD ds i d) ≡ Err e → Err e ≡ denials-answer l ds
+  pub refused-at : (d : Denial) (e : LayerRefusal) → i < length ds → Err e ≡ denial-answer l i (getD ds i d) → Err e ≡ denials-answer l ds
   refused-at d e below h =
       let x = getD ds i d in
-      sym (asked-refused tt (denial-questions l i x) (denials-questions l (i + 1) (drop (i + 1) ds)) e h)
+      sym (asked-refused tt (denial-questions l i x) (denials-questions l (i + 1) (drop (i + 1) ds)) e (sym h))
       ∙ sym (at-drop-more (λ ys. asked (denials-questions l i ys) tt) ds i d below) ∙ so-far
 
-  pub passed-at : (d : Denial) → i < length ds → denial-answer l i (getD ds i d) ≡ Ok tt → asked (denials-questions l (i + 1) (drop (i + 1) ds)) tt ≡ denials-answer l ds
+  pub passed-at : (d : Denial) → i < length ds → Ok tt ≡ denial-answer l i (getD ds i d) → asked (denials-questions l (i + 1) (drop (i + 1) ds)) tt ≡ denials-answer l ds
   passed-at d below h =
       let x = getD ds i d in
-      sym (asked-passed tt (denial-questions l i x) (denials-questions l (i + 1) (drop (i + 1) ds)) h)
+      sym (asked-passed tt (denial-questions l i x) (denials-questions l (i + 1) (drop (i + 1) ds)) (sym h))
       ∙ sym (at-drop-more (λ ys. asked (denials-questions l i ys) tt) ds i d below) ∙ so-far
 
   pub passed-all : length ds ≤ i → Ok tt ≡ denials-answer l ds

@@ -1,12 +1,12 @@
 -- What it means that some denial forbids a profile.
 use mathlib.Core.Path.{_≡_, refl, sym, ap, _∙_}
-use mathlib.Core.Bool.{Bool, true, false, _||_}
+use mathlib.Core.Bool.{Bool, true, false}
 use mathlib.Core.List.{List, [], _∷_}
 use mathlib.Core.Logic.{_⊎_, inl, inr, ⊎-elim}
-use Prim.Native.Nat.{ℕ, zero, suc, _<_}
+use Prim.Native.Nat.{ℕ, zero, suc, _+_, _<_, _≤_}
 use native.Mathlib.Omega.{arith}
 use lib.Dec.{eqb}
-use lib.ListN.{length}
+use lib.ListN.{length, getD, drop}
 use Rattle.std.specs.Orderings.{Decides}
 use Rattle.std.specs.shelf.Lists.{Has}
 use Rattle.std.proofs.shelf.Tests.{and-parts, and-from, or-cases, or-left, or-right, eqb-true, eq-eqb}
@@ -14,6 +14,7 @@ use Rattle.sets.specs.declared.small_set.SmallSet.{SmallSet}
 use Rattle.sets.specs.Sets.{has, union, subset}
 use Rattle.sets.proofs.Sets.{subset-has, has-subset, union-has}
 use Rattle.chart.specs.Layout.{any-of}
+use Rattle.chart.proofs.Every.{any-stop, any-on, any-done}
 use Rattle.profile.specs.declared.shape.Profile.{Profile}
 use Rattle.layers.specs.declared.denial.Denial.{Denial}
 use Rattle.layers.specs.Readings.{hits, denied, Denied}
@@ -58,4 +59,15 @@ denied-means ds server p = (told, tells)
     tells (d, among, its, lie) =
         any-has (hits server p) ds d among
         (and-from (eqb (d .server) server) (subset (d .attributes) (union (p .shown) (p .filtered)))
-          (eq-eqb (d .server) server its) (in-lies (d .attributes) (p .shown) (p .filtered) lie))
+        (eq-eqb (d .server) server its) (in-lies (d .attributes) (p .shown) (p .filtered) lie))
+
+-- a loop that looks for a denial that forbids, at denial i
+module _ (ds : List Denial) (server : ℕ) (p : Profile) (i : ℕ) (so-far : denied (drop i ds) server p ≡ denied ds server p) where
+  pub hit-at : (d : Denial) → i < length ds → true ≡ hits server p (getD ds i d) → true ≡ denied ds server p
+  hit-at d below h = sym (any-stop (hits server p) ds i d below (sym h)) ∙ so-far
+
+  pub missed-at : (d : Denial) → i < length ds → false ≡ hits server p (getD ds i d) → denied (drop (i + 1) ds) server p ≡ denied ds server p
+  missed-at d below h = sym (any-on (hits server p) ds i d below (sym h)) ∙ so-far
+
+  pub missed-all : length ds ≤ i → false ≡ denied ds server p
+  missed-all past = sym (any-done (hits server p) ds i past) ∙ so-far

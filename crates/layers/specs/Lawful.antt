@@ -1,4 +1,4 @@
--- A layer over a lawful policy is lawful.
+-- A layer over a lawful policy is lawful: the terms that the impls give for `lawful`.
 use mathlib.Core.Path.{_≡_, refl, ap}
 use mathlib.Core.Bool.{Bool, true, false, not, _&&_, _||_}
 use mathlib.Core.List.{List}

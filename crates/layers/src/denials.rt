@@ -1,6 +1,6 @@
 ghost use mathlib.Core.Path.{_≡_};
-ghost use mathlib.Core.Bool.{Bool, true, not, _&&_};
-ghost use Prim.Native.Nat.{ℕ, _-_, _+_, _<_, _≤_};
+ghost use mathlib.Core.Bool.{not, _&&_};
+ghost use Prim.Native.Nat.{_≤_};
 ghost use lib.ListN.{length, take};
 ghost use Rattle.std.specs.Orderings.{Decides};
 ghost use Rattle.std.specs.Vec.{made};
@@ -33,7 +33,8 @@ pub struct Denials<P> {
 fn denial_hits(denial: Denial, server: u16, profile: &Profile) -> bool
     ensures { λ r. ⌜ r ≡ hits server (now (profile .entry)) denial ⌝ }
 {
-    denial.server == server && denial.attributes.is_subset(profile.shown.union(profile.filtered))
+    let seen = profile.shown.union(profile.filtered);
+    denial.server == server && denial.attributes.is_subset(seen)
 }
 
 // Whether some denial forbids the server to see the profile.

@@ -1,8 +1,8 @@
 use denote.Ref.{now}
-use mathlib.Core.Path.{_≡_, _∙_, sym, ap}
+use mathlib.Core.Path.{_∙_, ap}
 use native.Mathlib.Omega.{arith}
 use lib.ListN.{getD}
-use Rattle.std.specs.declared.result.Result.the-variants.{Ok, Err}
+use Rattle.std.specs.declared.result.Result.the-variants.{Err}
 use Rattle.std.specs.Results.{isOk}
 use Rattle.std.proofs.shelf.Results.{err-from-errBy}
 use Rattle.std.proofs.shelf.Tests.{both-ways}
@@ -20,9 +20,8 @@ returns-in-Break-check-denial c =
     let p = err-from-errBy (c .from-residual .result) (c .from-residual .ensures .1) in
     let ds = now (c .args .denials) in
     let h = c .in-Break-check-denial .ensures tt in
-    let q = p .2 in
     record {
-      answer = p .1 ∙ ap Err (p .2) ∙ refused-at (layout (now (c .args .chart))) ds (c .loop-i .i) (c .loop-i .inv .0) nothing _ (c .loop-i-test .taken) (sym h);
+      answer = p .1 ∙ ap Err (p .2) ∙ refused-at (layout (now (c .args .chart))) ds (c .loop-i .i) (c .loop-i .inv .0) nothing _ (c .loop-i-test .taken) h;
       few = λ ok. absurd (both-ways (isOk (c .from-residual .result)) (ap isOk (p .1)) ok);
     }
 
@@ -31,8 +30,8 @@ loop-i-again c =
     let ds = now (c .args .denials) in
     let l = layout (now (c .args .chart)) in
     let h = c .in-Continue-check-denial .ensures tt in
-    let below = held-below l (c .loop-i .i) (getD ds (c .loop-i .i) nothing) (sym h) in
-    (passed-at l ds (c .loop-i .i) (c .loop-i .inv .0) nothing (c .loop-i-test .taken) (sym h), omega arith)
+    let below = held-below l (c .loop-i .i) (getD ds (c .loop-i .i) nothing) h in
+    (passed-at l ds (c .loop-i .i) (c .loop-i .inv .0) nothing (c .loop-i-test .taken) h, omega arith)
 
 pub returns : need.returns
 returns c = record {
