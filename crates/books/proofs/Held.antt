@@ -104,7 +104,7 @@ module _ (slots : List (Option Rule)) (i : ℕ) (x : Option Rule) (below : i < l
   at-slot : getD slots i None ≡ x
   at-slot = sym (getD-read slots i x below read None)
 
-  rest-is : held (drop i slots) ≡ held (x ∷ drop (i + 1) slots)
+  pub rest-is : held (drop i slots) ≡ held (x ∷ drop (i + 1) slots)
   rest-is = at-drop-more held slots i None below ∙ ap (λ o. held (o ∷ drop (i + 1) slots)) at-slot
 
   pub found-number : (n : ℕ) → in-force n (held (x ∷ [])) ≡ true → Holds slots i n

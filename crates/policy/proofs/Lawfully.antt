@@ -24,9 +24,21 @@ use Rattle.policy.specs.Books.{apart}
 use Rattle.policy.specs.Lawful.{Lawful}
 use Rattle.policy.proofs.Orders.{same-exact}
 
+-- what a well-formed rule names is known
+pub rule-parts : (l : Layout) (r : RuleRecord) → well-formed l r ≡ true → (server-known l (r .view .server) ≡ true) × (attributes-known l (r .view .attributes) ≡ true) × (links-known l (r .view .path) ≡ true)
+unfolding path-joins
+rule-parts l r formed =
+    let v = r .view in
+    let q1 = and-parts (leb 1 (r .number) && leb (r .number) 999)
+    (server-known l (v .server) && ((attributes-known l (v .attributes) && not (same (v .attributes) none)) && (path-joins l v && true))) formed in
+    let q2 = and-parts (server-known l (v .server)) ((attributes-known l (v .attributes) && not (same (v .attributes) none)) && (path-joins l v && true)) (q1 .1) in
+    let q3 = and-parts (attributes-known l (v .attributes) && not (same (v .attributes) none)) (path-joins l v && true) (q2 .1) in
+    let q4 = and-parts (path-joins l v) true (q3 .1) in
+    (q2 .0, and-parts (attributes-known l (v .attributes)) (not (same (v .attributes) none)) (q3 .0) .0, and-parts (links-known l (v .path)) (tree l (v .attributes) (v .path)) (q4 .0) .0)
+
 -- what the view of a well-formed rule lets a server see lies inside the chart
 module _ (l : Layout) (server : ℕ) (p : Profile) where
-  view-inside : (v : View) → server-known l (v .server) ≡ true → attributes-known l (v .attributes) ≡ true → links-known l (v .path) ≡ true → view-lets server p v ≡ true → inside l server p ≡ true
+  pub view-inside : (v : View) → server-known l (v .server) ≡ true → attributes-known l (v .attributes) ≡ true → links-known l (v .path) ≡ true → view-lets server p v ≡ true → inside l server p ≡ true
   view-inside v known attributes links lets =
       let a = and-parts (eqb (v .server) server && same (v .path) (p .path)) (subset (union (p .shown) (p .filtered)) (v .attributes)) lets in
       let b = and-parts (eqb (v .server) server) (same (v .path) (p .path)) (a .0) in
@@ -40,16 +52,7 @@ module _ (l : Layout) (server : ℕ) (p : Profile) where
       (and-from (attributes-known l (p .filtered)) (links-known l (p .path)) filtered (ap (links-known l) (sym (same-is (v .path) (p .path) (b .1))) ∙ links))
 
   rule-inside : (r : RuleRecord) → well-formed l r ≡ true → view-lets server p (r .view) ≡ true → inside l server p ≡ true
-  unfolding path-joins
-  rule-inside r formed lets =
-      let v = r .view in
-      let q1 = and-parts (leb 1 (r .number) && leb (r .number) 999)
-      (server-known l (v .server) && ((attributes-known l (v .attributes) && not (same (v .attributes) none)) && (path-joins l v && true))) formed in
-      let q2 = and-parts (server-known l (v .server)) ((attributes-known l (v .attributes) && not (same (v .attributes) none)) && (path-joins l v && true)) (q1 .1) in
-      let q3 = and-parts (attributes-known l (v .attributes) && not (same (v .attributes) none)) (path-joins l v && true) (q2 .1) in
-      let q4 = and-parts (path-joins l v) true (q3 .1) in
-      view-inside v (q2 .0) (and-parts (attributes-known l (v .attributes)) (not (same (v .attributes) none)) (q3 .0) .0)
-      (and-parts (links-known l (v .path)) (tree l (v .attributes) (v .path)) (q4 .0) .0) lets
+  rule-inside r formed lets = let k = rule-parts l r formed in view-inside (r .view) (k .0) (k .1) (k .2) lets
 
   pub exact-outside : (rules : List RuleRecord) → all-of (well-formed l) rules ≡ true → inside l server p ≡ false → exact-reading rules server p ≡ false
   exact-outside [] formed out = refl
