@@ -1,15 +1,13 @@
 -- The list of members has just the members.
 use mathlib.Core.Path.{_≡_, refl, sym, ap, subst, _∙_}
 use mathlib.Core.Bool.{Bool, true, false, _||_}
-use mathlib.Core.List.{List, [], _∷_, _++_}
-use mathlib.Core.Logic.{_⊎_, inl, inr}
-use Prim.Native.Nat.{ℕ, zero, suc, _+_, _<_, _≤_}
+use mathlib.Core.List.{List, [], _∷_}
+use mathlib.Core.Logic.{inl, inr}
+use Prim.Native.Nat.{ℕ, zero, suc, _≤_}
 use native.Mathlib.Omega.{arith}
 use lib.ListN.{length}
 use Rattle.std.specs.shelf.Lists.{joined}
 use Rattle.std.proofs.shelf.Tests.{or-cases, or-left, or-right, or-parts, both-ways, cases-lt, false≢true}
-use Rattle.sets.specs.declared.small_set.SmallSet.{SmallSet}
-use Rattle.sets.specs.Bits.{rising}
 use Rattle.sets.specs.Sets.{has, union, subset}
 use Rattle.sets.proofs.Sets.{subset-union, subset-trans, union-least, union-comm}
 use Rattle.chart.specs.declared.state.Chart.{Chart}

@@ -1,9 +1,9 @@
 -- A list that grows to the members.
-use mathlib.Core.Path.{_≡_, refl, sym, ap, subst, _∙_}
-use mathlib.Core.Bool.{Bool, true, false, _||_}
+use mathlib.Core.Path.{_≡_, sym, ap, _∙_}
+use mathlib.Core.Bool.{true, false}
 use mathlib.Core.List.{List, [], _∷_, _++_}
 use mathlib.Core.Logic.{_⊎_, inl, inr}
-use Prim.Native.Nat.{ℕ, zero, suc, _+_, _<_, _≤_}
+use Prim.Native.Nat.{ℕ, _+_, _<_, _≤_}
 use native.Mathlib.Omega.{arith}
 use lib.ListN.{length, getD, take}
 use Rattle.std.specs.shelf.Lists.{joined}
@@ -14,7 +14,7 @@ use Rattle.chart.specs.Layout.{Layout}
 use Rattle.chart.specs.Charts.{layout}
 use Rattle.rules.specs.declared.view.View.{View}
 use Rattle.members.specs.Compose.{composes, composition, compositions}
-use Rattle.members.specs.Members.{among, Distinct, Member, listed, composed, with-new, members}
+use Rattle.members.specs.Members.{among, Member, listed, composed, with-new, members}
 use Rattle.members.specs.Table.{Growing, Holds}
 use Rattle.members.proofs.Views.{iff-same, among-push, among-take, among-at, among-new, distinct-new, distinct-le, new-behind}
 use Rattle.members.proofs.Counts.{among-joined, joined-among}

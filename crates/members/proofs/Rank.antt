@@ -1,8 +1,8 @@
 -- How many known attributes a view has: what two views compose to has theirs together, and each has at least one.
-use mathlib.Core.Path.{_≡_, refl, sym, ap, subst, _∙_}
-use mathlib.Core.Bool.{Bool, true, false, cond, _&&_, _||_}
+use mathlib.Core.Path.{_≡_, refl, sym, ap, _∙_}
+use mathlib.Core.Bool.{Bool, true, false, _&&_}
 use mathlib.Core.List.{List, [], _∷_}
-use mathlib.Core.Logic.{_⊎_, inl, inr}
+use mathlib.Core.Logic.{inl, inr}
 use Prim.Native.Nat.{ℕ, zero, suc, _+_, _<_, _≤_}
 use native.Mathlib.Omega.{arith}
 use lib.Dec.{eqb}
@@ -13,10 +13,10 @@ use Rattle.std.specs.Options.{Cases, mapped}
 use Rattle.std.specs.shelf.Maps.{nth}
 use Rattle.std.specs.shelf.Lists.{Has}
 use Rattle.std.proofs.shelf.Maps.{nth-past}
-use Rattle.std.proofs.shelf.Tests.{eqb-true, eq-eqb, and-parts, and-from, or-left, or-right, or-cases, both-ways, false≢true, cases-lt}
+use Rattle.std.proofs.shelf.Tests.{eqb-true, eq-eqb, and-parts, and-from, or-left, or-right, or-cases, false≢true}
 use Rattle.sets.specs.declared.small_set.SmallSet.{SmallSet}
 use Rattle.sets.specs.Bits.{rising}
-use Rattle.sets.specs.Sets.{has, none, single, union, subset, disjoint}
+use Rattle.sets.specs.Sets.{has, single, union, subset, disjoint}
 use Rattle.sets.specs.Sets as set
 use Rattle.sets.proofs.Sets.{single-has, union-has, union-comm, subset-has, disjoint-has, has-disjoint, rising-has}
 use Rattle.chart.specs.declared.parts.Attribute.{Attribute}

@@ -1,23 +1,24 @@
 -- The turns of the table's loops.
-use mathlib.Core.Path.{_≡_, refl, sym, ap, subst, _∙_}
-use mathlib.Core.Bool.{Bool, true, false, cond, _||_}
+use mathlib.Core.Path.{_≡_, refl, sym, ap, _∙_}
+use mathlib.Core.Bool.{Bool, true, false, cond, _&&_, _||_}
 use mathlib.Core.List.{List, [], _∷_, _++_, map}
-use Prim.Native.Nat.{ℕ, zero, suc, _+_, _-_, _<_, _≤_}
+use Prim.Native.Nat.{ℕ, suc, _+_, _-_, _<_, _≤_}
 use native.Mathlib.Omega.{arith}
+use lib.Dec.{eqb}
 use lib.ListN.{length, getD, take, drop}
 use Rattle.std.specs.shelf.Lists.{joined}
 use Rattle.std.proofs.shelf.Lists.{at-drop-more, at-drop-all, append-assoc, length-take-le, getD-take, getD-append-left, take-more, take-append-drop, take-take}
-use Rattle.std.proofs.shelf.Tests.{cond-true, cond-false}
+use Rattle.std.proofs.shelf.Tests.{cond-true, cond-false, false≢true}
 use Rattle.sets.specs.Bits.{rising}
 use Rattle.chart.specs.declared.state.Chart.{Chart}
 use Rattle.chart.specs.Layout.{Layout}
 use Rattle.chart.specs.Charts.{layout}
 use Rattle.chart.proofs.Sound.{links-length}
 use Rattle.rules.specs.declared.view.View.{View}
-use Rattle.members.specs.Compose.{composes, composition, compositions}
+use Rattle.members.specs.Compose.{bridges, share-none, composes, composition, compositions}
 use Rattle.members.specs.Members.{same-view, among, with-new}
 use Rattle.members.proofs.Views.{new-append, new-behind, new-longer}
-use Rattle.members.proofs.Counts.{rising-same}
+use Rattle.members.proofs.Counts.{rising-none, rising-same}
 use Rattle.members.proofs.Rank.{never-past}
 
 -- looking for a view
@@ -59,26 +60,11 @@ new-over xs all v rest inv over =
 abbrev pub from-link : Layout → View → View → ℕ → List View
 from-link l a b k = map (composition a b) (rising (composes l a b) k (64 - k))
 
-module _ (l : Layout) (a b : View) (k : ℕ) where
-  pub link-took : k < 64 → composes l a b k ≡ true → from-link l a b k ≡ composition a b k ∷ from-link l a b (k + 1)
-  unfolding rising
-  link-took below h =
-      let e : 64 - k ≡ suc (64 - (k + 1)) = omega arith in
-      ap (λ n. map (composition a b) (rising (composes l a b) k n)) e
-      ∙ ap (map (composition a b)) (cond-true (composes l a b k) (k ∷ rising (composes l a b) (k + 1) (64 - (k + 1))) (rising (composes l a b) (k + 1) (64 - (k + 1))) h)
-
-  pub link-passed : k < 64 → composes l a b k ≡ false → from-link l a b k ≡ from-link l a b (k + 1)
-  unfolding rising
-  link-passed below h =
-      let e : 64 - k ≡ suc (64 - (k + 1)) = omega arith in
-      ap (λ n. map (composition a b) (rising (composes l a b) k n)) e
-      ∙ ap (map (composition a b)) (cond-false (composes l a b k) (k ∷ rising (composes l a b) (k + 1) (64 - (k + 1))) (rising (composes l a b) (k + 1) (64 - (k + 1))) h)
-
-  pub link-done : 64 ≤ k → from-link l a b k ≡ []
-  unfolding rising
-  link-done past =
-      let e : 64 - k ≡ 0 = omega arith in
-      ap (λ n. map (composition a b) (rising (composes l a b) k n)) e
+pub link-done : (l : Layout) (a b : View) (k : ℕ) → 64 ≤ k → from-link l a b k ≡ []
+unfolding rising
+link-done l a b k past =
+    let e : 64 - k ≡ 0 = omega arith in
+    ap (λ n. map (composition a b) (rising (composes l a b) k n)) e
 
 -- a chart has at most 64 links
 pub all-links : (c : Chart) (a b : View) → from-link (layout c) a b 0 ≡ compositions (layout c) a b
@@ -86,6 +72,49 @@ unfolding compositions
 all-links c a b =
     let l = layout c in
     sym (ap (map (composition a b)) (rising-same (composes l a b) (length (l .links)) 64 0 (omega (arith, links-length c, c .counted .2)) (λ i past. never-past l a b i (omega arith))))
+
+-- two views that compose over no link, and two that compose over each link with one end in each
+never-with : (e s t : Bool) → false ≡ (e && s) → (e && (t && s)) ≡ false
+never-with true false true h = refl
+never-with true false false h = refl
+never-with true true t h = absurd (false≢true h)
+never-with false s t h = refl
+
+always-with : (e s t : Bool) → true ≡ (e && s) → (e && (t && s)) ≡ t
+always-with true true true h = refl
+always-with true true false h = refl
+always-with true false t h = absurd (false≢true (sym h))
+always-with false s t h = absurd (false≢true (sym h))
+
+pub pair-never : (l : Layout) (a b : View) (xs : List View) → false ≡ (eqb (a .server) (b .server) && share-none l a b) → xs ≡ with-new xs (compositions l a b)
+unfolding composes compositions
+pair-never l a b xs h =
+    sym (ap (λ ks. with-new xs (map (composition a b) ks)) (rising-none (composes l a b) (length (l .links)) 0 (λ k low. never-with (eqb (a .server) (b .server)) (share-none l a b) (bridges l a b k) h))
+    ∙ new-none xs)
+
+-- one turn over the links: xs is in the table, and the compositions from link k on are still to come
+module _ (l : Layout) (a b : View) (k : ℕ) (below : k < 64) (may : true ≡ (eqb (a .server) (b .server) && share-none l a b)) (xs all : List View)
+    (inv : with-new xs (from-link l a b k) ≡ all) where
+  if-bridged : (t : Bool) → t ≡ bridges l a b k → from-link l a b k ≡ map (composition a b) (cond t (k ∷ rising (composes l a b) (k + 1) (64 - (k + 1))) (rising (composes l a b) (k + 1) (64 - (k + 1))))
+  unfolding rising composes
+  if-bridged t h =
+      let e : 64 - k ≡ suc (64 - (k + 1)) = omega arith in
+      let rest = rising (composes l a b) (k + 1) (64 - (k + 1)) in
+      ap (λ n. map (composition a b) (rising (composes l a b) k n)) e
+      ∙ ap (λ u. map (composition a b) (cond u (k ∷ rest) rest)) (always-with (eqb (a .server) (b .server)) (share-none l a b) (bridges l a b k) may ∙ sym h)
+
+  pub link-took : true ≡ bridges l a b k → (v : View) → v ≡ composition a b k → (xs′ : List View) → xs′ ≡ with-new xs (v ∷ []) → with-new xs′ (from-link l a b (k + 1)) ≡ all
+  link-took h v made xs′ e =
+      new-step xs xs′ all v (from-link l a b (k + 1)) e
+      (ap (λ w. with-new xs (w ∷ from-link l a b (k + 1))) made ∙ ap (with-new xs) (sym (if-bridged true h)) ∙ inv)
+
+  pub link-over : true ≡ bridges l a b k → (v : View) → v ≡ composition a b k → 256 < length (with-new xs (v ∷ [])) → 256 < length all
+  link-over h v made over =
+      new-over xs all v (from-link l a b (k + 1))
+      (ap (λ w. with-new xs (w ∷ from-link l a b (k + 1))) made ∙ ap (with-new xs) (sym (if-bridged true h)) ∙ inv) over
+
+  pub link-passed : false ≡ bridges l a b k → (xs′ : List View) → xs′ ≡ xs → with-new xs′ (from-link l a b (k + 1)) ≡ all
+  link-passed h xs′ e = ap (λ ys. with-new ys (from-link l a b (k + 1))) e ∙ ap (with-new xs) (sym (if-bridged false h)) ∙ inv
 
 -- a list that is joined part by part
 joined-append : (f : View → List View) (xs ys : List View) → joined f (xs ++ ys) ≡ joined f xs ++ joined f ys
@@ -142,3 +171,11 @@ pub row-same : (f : View → View → List View) (T : List View) (n i : ℕ) (d 
 row-same f T n i d below =
     ap (λ v. with-new (take n T) (joined (f v) (take i T))) (sym (getD-take n T i d below))
     ∙ ap (λ os. with-new (take n T) (joined (f (getD (take n T) i d)) os)) (sym (take-take i n T (omega arith)))
+
+pub row-is : (f : View → View → List View) (T : List View) (n i : ℕ) (d : View) → i < n → (V : List View)
+    → V ≡ with-new (take n T) (joined (f (getD T i d)) (take i T)) → V ≡ with-new (take n T) (joined (f (getD (take n T) i d)) (take i (take n T)))
+row-is f T n i d below V e = e ∙ row-same f T n i d below
+
+-- the front of a table, where ways meet
+pub front-is : {T U : List View} {n m : ℕ} (xs : List View) → n ≡ m → T ≡ U → take m U ≡ xs → take n T ≡ xs
+front-is {T} {U} {n} {m} xs counts tables e = ap (λ k. take k T) counts ∙ ap (take m) tables ∙ e

@@ -1,15 +1,14 @@
 -- Views in lists: which there are, and lists without repeats.
-use mathlib.Core.Path.{_≡_, refl, sym, ap, subst, _∙_}
+use mathlib.Core.Path.{_≡_, refl, sym, ap, _∙_}
 use mathlib.Core.Bool.{Bool, true, false, cond, _&&_, _||_}
-use mathlib.Core.List.{List, [], _∷_, _++_, map}
+use mathlib.Core.List.{List, [], _∷_, _++_}
 use mathlib.Core.Logic.{_⊎_, inl, inr}
 use Prim.Native.Nat.{ℕ, zero, suc, _+_, _<_, _≤_}
 use native.Mathlib.Omega.{arith}
 use lib.Dec.{eqb}
 use lib.ListN.{length, getD, take, drop}
-use Rattle.std.specs.shelf.Lists.{joined}
 use Rattle.std.proofs.shelf.Lists.{append-nil, append-assoc, length-append, take-append-drop}
-use Rattle.std.proofs.shelf.Tests.{eqb-true, eq-eqb, and-parts, and-from, or-left, or-right, or-cases, or-parts, both-ways, cases-bool, cond-true, cond-false, false≢true}
+use Rattle.std.proofs.shelf.Tests.{eqb-true, eq-eqb, and-parts, and-from, or-left, or-right, or-cases, or-parts, both-ways, false≢true}
 use Rattle.sets.specs.declared.small_set.SmallSet.{SmallSet}
 use Rattle.sets.specs.Sets.{same}
 use Rattle.sets.proofs.Sets.{same-is, is-same}

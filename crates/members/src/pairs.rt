@@ -1,9 +1,11 @@
 // Two views, and what they compose to.
 ghost use mathlib.Core.Path.{_≡_};
-ghost use Prim.Native.Nat.{_<_, _≤_};
+ghost use mathlib.Core.Bool.{_&&_};
+ghost use Prim.Native.Nat.{_<_};
+ghost use lib.Dec.{eqb};
 ghost use Rattle.std.specs.declared.option.Option.the-variants.{Some};
 ghost use Rattle.chart.specs.Charts.{layout};
-ghost use Rattle.members.specs.Compose.{lies-across, bridges, share-none, composes, composition};
+ghost use Rattle.members.specs.Compose.{lies-across, bridges, share-none, composition};
 ghost use Rattle.members.specs.Members.{same-view};
 use chart::Chart;
 use rules::View;
@@ -24,7 +26,7 @@ fn lie_across(left: SmallSet, right: SmallSet, s: SmallSet, t: SmallSet) -> bool
 }
 
 // Whether a link has one end in each view's attributes.
-fn is_bridged(chart: &Chart, a: View, b: View, link: u16) -> bool
+pub(crate) fn is_bridged(chart: &Chart, a: View, b: View, link: u16) -> bool
     ensures { λ r. ⌜ r ≡ bridges (layout (now (chart .entry))) a b link ⌝ }
 {
     match chart.ends(link) {
@@ -40,11 +42,11 @@ fn are_apart(chart: &Chart, a: View, b: View) -> bool
     relations(chart, a.attributes, a.path).is_disjoint(relations(chart, b.attributes, b.path))
 }
 
-// Whether two views compose over a link.
-pub(crate) fn can_compose(chart: &Chart, a: View, b: View, link: u16) -> bool
-    ensures { λ r. ⌜ r ≡ composes (layout (now (chart .entry))) a b link ⌝ }
+// Whether two views compose over any link that has one end in each.
+pub(crate) fn may_compose(chart: &Chart, a: View, b: View) -> bool
+    ensures { λ r. ⌜ r ≡ (eqb (a .server) (b .server) && share-none (layout (now (chart .entry))) a b) ⌝ }
 {
-    a.server == b.server && is_bridged(chart, a, b, link) && are_apart(chart, a, b)
+    a.server == b.server && are_apart(chart, a, b)
 }
 
 // What two views compose to over a link.

@@ -1,7 +1,7 @@
 // A table of at most 256 members, filled from its front.
 ghost use mathlib.Core.Path.{_≡_};
 ghost use mathlib.Core.List.{List, [], _∷_};
-ghost use Prim.Native.Nat.{ℕ, _<_, _≤_};
+ghost use Prim.Native.Nat.{_<_, _≤_};
 ghost use lib.ListN.{length, getD, take};
 ghost use Rattle.std.specs.shelf.Lists.{joined};
 ghost use Rattle.rules.specs.declared.view.View.{View};
@@ -9,9 +9,10 @@ ghost use Rattle.chart.specs.Charts.{layout};
 ghost use Rattle.members.specs.Compose.{compositions};
 ghost use Rattle.members.specs.Members.{among, with-new};
 ghost use Rattle.members.specs.Table.{no-view, Filled, Growing, Grown};
-use crate::pairs::can_compose;
 use crate::pairs::compose;
+use crate::pairs::is_bridged;
 use crate::pairs::is_same;
+use crate::pairs::may_compose;
 use chart::Chart;
 use rules::View;
 
@@ -62,8 +63,11 @@ fn add_pair(chart: &Chart, table: &mut [View], mut n: usize, a: View, b: View) -
     requires { ⌜ length (now table) ≡ 256 ⌝ ∗ ⌜ n ≤ 256 ⌝ }
     ensures { λ r. ⌜ Filled r (now (table .exit)) (with-new (take n (now (table .entry))) (compositions (layout (now (chart .entry))) a b)) ⌝ }
 {
+    if !may_compose(chart, a, b) {
+        return Some(n);
+    }
     for k in 0..64u16 {
-        if can_compose(chart, a, b, k) {
+        if is_bridged(chart, a, b, k) {
             let Some(m) = add(table, n, compose(a, b, k)) else {
                 return None;
             };

@@ -1,4 +1,3 @@
-use borrow.Author.Needs.{needs}
 use denote.Ref.{now}
 use mathlib.Core.Path.{ap, _∙_}
 use Rattle.sets.specs.Sets.{disjoint}

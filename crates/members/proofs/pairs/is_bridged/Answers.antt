@@ -1,5 +1,4 @@
-use denote.Ref.{now}
-use mathlib.Core.Path.{sym, ap, _∙_}
+use mathlib.Core.Path.{ap, _∙_}
 use Rattle.members.specs.Compose.{lies-across, bridges}
 use Rattle.members.proofs.pairs.is_bridged.Needs as need
 

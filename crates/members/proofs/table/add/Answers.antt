@@ -1,6 +1,5 @@
 use denote.Ref.{now}
 use mathlib.Core.Path.{_≡_, ap, _∙_}
-use mathlib.Core.List.{_∷_, [], _++_}
 use Prim.Native.Nat.{_-_}
 use native.Mathlib.Omega.{arith}
 use lib.ListN.{length, take}

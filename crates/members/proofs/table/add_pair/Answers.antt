@@ -1,15 +1,18 @@
 use denote.Ref.{now}
-use mathlib.Core.Path.{_≡_, sym, ap, _∙_}
-use mathlib.Core.List.{List, [], _∷_}
-use Prim.Native.Nat.{ℕ, _+_, _<_}
+use mathlib.Core.Path.{refl, sym, ap, _∙_}
+use mathlib.Core.List.{[], _∷_}
 use native.Mathlib.Omega.{arith}
-use lib.ListN.{length, take}
+use lib.ListN.{take}
 use Rattle.chart.specs.Charts.{layout}
-use Rattle.members.specs.Compose.{composition, compositions}
+use Rattle.members.specs.Compose.{compositions}
 use Rattle.members.specs.Members.{with-new}
-use Rattle.members.proofs.Turns.{from-link, link-took, link-passed, link-done, all-links, new-none, new-step, new-over}
+use Rattle.members.proofs.Turns.{link-took, link-passed, link-over, link-done, all-links, pair-never, new-none, front-is}
 use Rattle.members.proofs.table.add_pair.Needs as need
-use Rattle.members.proofs.table.add_pair.Needs.{then-can-compose·in-Some, else-can-compose}
+use Rattle.members.proofs.table.add_pair.Needs.{then-is-bridged·in-Some, else-is-bridged}
+
+pub returns-then-not-may-compose : need.returns-then-not-may-compose
+returns-then-not-may-compose c =
+    (c .pre .1, pair-never (layout (now (c .args .chart))) (c .args .a) (c .args .b) (take (c .args .n) (now (c .args .table))) (c .if-not-may-compose .ensures tt))
 
 pub loop-k-holds : need.loop-k-holds
 loop-k-holds c = (c .pre .1, ap (with-new (take (c .args .n) (now (c .args .table)))) (all-links (now (c .args .chart)) (c .args .a) (c .args .b)))
@@ -17,39 +20,36 @@ loop-k-holds c = (c .pre .1, ap (with-new (take (c .args .n) (now (c .args .tabl
 pub returns-in-rest : need.returns-in-rest
 returns-in-rest c =
     let l = layout (now (c .args .chart)) in
-    let a = c .args .a in
-    let b = c .args .b in
-    let k = c .loop-k .k in
-    let xs = take (c .loop-k .n) (c .loop-k .table) in
-    let all = with-new (take (c .args .n) (now (c .args .table))) (compositions l a b) in
-    let took = link-took l a b k (c .loop-k-test .taken) (sym (c .if-can-compose .ensures tt)) in
-    new-over xs all (composition a b k) (from-link l a b (k + 1)) (ap (with-new xs) (sym took) ∙ c .loop-k .inv .1)
-    (omega (arith, ap (λ v. length (with-new xs (v ∷ []))) (c .compose .ensures), c .in-rest .ensures tt))
+    let all = with-new (take (c .args .n) (now (c .args .table))) (compositions l (c .args .a) (c .args .b)) in
+    link-over l (c .args .a) (c .args .b) (c .loop-k .k) (c .loop-k-test .taken) (c .if-not-may-compose .ensures tt) (take (c .loop-k .n) (c .loop-k .table)) all (c .loop-k .inv .1)
+    (c .if-is-bridged .ensures tt) (c .compose .result) (c .compose .ensures) (c .in-rest .ensures tt)
 
 pub loop-k-again : need.loop-k-again
 loop-k-again c =
     let l = layout (now (c .args .chart)) in
     let a = c .args .a in
     let b = c .args .b in
-    let k = c .loop-k .k in
     let xs = take (c .loop-k .n) (c .loop-k .table) in
+    let next = take (c .if-is-bridged .n) (c .if-is-bridged .table) in
     let all = with-new (take (c .args .n) (now (c .args .table))) (compositions l a b) in
-    elim (c .if-can-compose .came) [
-      | then-can-compose·in-Some w ↦
+    elim (c .if-is-bridged .came) [
+      | then-is-bridged·in-Some w ↦
           let h = w .in-Some .ensures tt in
-          let took = link-took l a b k (c .loop-k-test .taken) (sym (w .if-can-compose .ensures tt)) in
-          let e = ap (λ m. take m (c .if-can-compose .table)) (w .n-is) ∙ ap (take (w .in-Some .m)) (w .table-is) ∙ h .1 ∙ ap (λ v. with-new xs (v ∷ [])) (w .compose .ensures) in
-          (omega (arith, h .0, w .n-is), new-step xs (take (c .if-can-compose .n) (c .if-can-compose .table)) all (composition a b k) (from-link l a b (k + 1)) e (ap (with-new xs) (sym took) ∙ c .loop-k .inv .1))
-      | else-can-compose w ↦
-          let passed = link-passed l a b k (c .loop-k-test .taken) (sym (w .if-can-compose .ensures tt)) in
-          let e = ap (λ m. take m (c .if-can-compose .table)) (w .n-is) ∙ ap (take (c .loop-k .n)) (w .table-is) in
-          (omega (arith, c .loop-k .inv .0, w .n-is), ap (λ ys. with-new ys (from-link l a b (k + 1))) e ∙ ap (with-new xs) (sym passed) ∙ c .loop-k .inv .1)
+          let e = front-is (with-new xs (w .compose .result ∷ [])) (w .n-is) (w .table-is) (h .1) in (
+            omega (arith, h .0, w .n-is),
+            link-took l a b (c .loop-k .k) (c .loop-k-test .taken) (c .if-not-may-compose .ensures tt) xs all (c .loop-k .inv .1)
+                (w .if-is-bridged .ensures tt) (w .compose .result) (w .compose .ensures) next e,
+          )
+      | else-is-bridged w ↦
+          let e = front-is xs (w .n-is) (w .table-is) refl in (
+            omega (arith, c .loop-k .inv .0, w .n-is),
+            link-passed l a b (c .loop-k .k) (c .loop-k-test .taken) (c .if-not-may-compose .ensures tt) xs all (c .loop-k .inv .1) (w .if-is-bridged .ensures tt) next e,
+          )
     ]
 
 pub returns : need.returns
 returns c =
-    let l = layout (now (c .args .chart)) in
-    let a = c .args .a in
-    let b = c .args .b in
-    let xs = take (c .loop-k .n) (c .loop-k .table) in
-    (c .loop-k .inv .0, sym (ap (with-new xs) (link-done l a b (c .loop-k .k) (c .loop-k-test .left)) ∙ new-none xs) ∙ c .loop-k .inv .1)
+    let xs = take (c .loop-k .n) (c .loop-k .table) in (
+      c .loop-k .inv .0,
+      sym (ap (with-new xs) (link-done (layout (now (c .args .chart))) (c .args .a) (c .args .b) (c .loop-k .k) (c .loop-k-test .left)) ∙ new-none xs) ∙ c .loop-k .inv .1,
+    )

@@ -1,7 +1,7 @@
 use denote.Ref.{now}
 use mathlib.Core.Path.{sym}
 use native.Mathlib.Omega.{arith}
-use lib.ListN.{length, take, getD}
+use lib.ListN.{take, getD}
 use Rattle.chart.specs.Charts.{layout}
 use Rattle.members.specs.Compose.{compositions}
 use Rattle.members.specs.Table.{no-view}

@@ -1,7 +1,7 @@
 use denote.Ref.{now}
-use mathlib.Core.Path.{_≡_, sym, ap, subst, _∙_}
+use mathlib.Core.Path.{_≡_, sym, ap, subst}
 use mathlib.Core.List.{List}
-use Prim.Native.Nat.{ℕ, _+_, _<_, _≤_}
+use Prim.Native.Nat.{_+_, _<_}
 use native.Mathlib.Omega.{arith}
 use lib.ListN.{length, take, getD}
 use Rattle.std.specs.shelf.Lists.{joined}
@@ -13,7 +13,7 @@ use Rattle.members.specs.Members.{with-new}
 use Rattle.members.specs.Table.{no-view, Growing}
 use Rattle.members.proofs.Views.{new-longer}
 use Rattle.members.proofs.Growing.{growing-more, growing-le, growing-end}
-use Rattle.members.proofs.Turns.{row-same}
+use Rattle.members.proofs.Turns.{row-same, row-is}
 use Rattle.members.proofs.table.close.Needs as need
 
 pub loop-i-holds : need.loop-i-holds
@@ -41,7 +41,7 @@ loop-i-again c =
     let h = c .in-Some .ensures tt in
     let xs = take n T in
     let row = joined (compositions (layout chart) (getD xs i no-view)) (take i xs) in
-    let e : take m U ≡ with-new xs row = h .1 ∙ row-same (compositions (layout chart)) T n i no-view (omega arith) in
+    let e : take m U ≡ with-new xs row = row-is (compositions (layout chart)) T n i no-view (omega arith) (take m U) (h .1) in
     let below : i < length xs = omega (arith, length-take-le n T (omega arith)) in (
       omega (arith, ap length e, length-take-le m U (omega (arith, h .0)), new-longer xs row),
       h .0,
