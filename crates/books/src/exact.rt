@@ -22,7 +22,7 @@ use rules::Rule;
 use rules::RuleRecord;
 
 // A book that reads its rules exactly. It has a slot for each of 64 rules; a withdrawal frees its slot.
-#[derive(Drop)]
+#[derive(Clone, Copy)]
 pub struct ExactBook {
     chart: Chart,
     slots: [Option<Rule>; 64],

@@ -1,3 +1,4 @@
 pub mod Composed
 pub mod Lawful
 pub mod Kept
+pub mod AnyBook

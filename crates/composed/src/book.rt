@@ -27,7 +27,7 @@ use sets::SmallSet;
 
 // A book that composes its rules: each server may also see what its rules let it join for itself. The first `count`
 // places of the table are the members, the views of the rules and all that they compose to.
-#[derive(Drop)]
+#[derive(Clone, Copy)]
 pub struct ComposedBook {
     chart: Chart,
     slots: [Option<Rule>; 64],
