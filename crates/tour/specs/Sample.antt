@@ -5,7 +5,8 @@ use Rattle.std.specs.declared.option.Option.{Option}
 use Rattle.std.specs.declared.option.Option.the-variants.{Some, None}
 use Rattle.std.specs.declared.result.Result.{Result}
 use Rattle.std.specs.declared.result.Result.the-variants.{Ok, Err}
-use Rattle.sets.specs.Sets.{single, union}
+use Rattle.sets.specs.declared.small_set.SmallSet.{SmallSet}
+use Rattle.sets.specs.Sets.{none, single, union}
 use Rattle.chart.specs.declared.refusal.ChartRefusal.{ChartRefusal}
 use Rattle.chart.specs.Refusals.{refusal-number}
 use Rattle.chart.specs.Layout.{Layout}
@@ -16,6 +17,7 @@ use Rattle.profile.specs.declared.join.Side.the-variants.{Left}
 use Rattle.profile.specs.Profiles.{leaf-answer, project, filter}
 use Rattle.profile.specs.Joins.{join-answer, joined, column, reply}
 use Rattle.tour.specs.declared.sample.Steps.{Steps}
+use Rattle.tour.specs.declared.sample.Sets.{Sets}
 
 -- three servers; a relation of three, two and two attributes at each; links 0=3 and 3=5
 abbrev pub sample : Layout
@@ -55,3 +57,19 @@ steps-of l = steps-from l (leaf-answer l 0) (leaf-answer l 1)
 abbrev pub refusal-of : Result ℕ ChartRefusal → Option ℕ
 refusal-of (Ok n) = None
 refusal-of (Err e) = Some (refusal-number e)
+
+-- the set of these numbers
+abbrev pub set-of : List ℕ → SmallSet
+set-of [] = none
+set-of (x ∷ xs) = union (single x) (set-of xs)
+
+-- the sets of the tour's rules and questions
+abbrev pub sets-of-tour : Sets
+sets-of-tour = record {
+  lots = set-of (0 ∷ 1 ∷ []);
+  berths = set-of (3 ∷ 4 ∷ []);
+  ends = set-of (0 ∷ 4 ∷ []);
+  denied = set-of (0 ∷ 3 ∷ []);
+  wide = set-of (0 ∷ 3 ∷ 4 ∷ []);
+  link = set-of (0 ∷ []);
+}

@@ -1,7 +1,8 @@
 ghost use mathlib.Core.Path.{_≡_};
+ghost use Rattle.std.specs.declared.option.Option.the-variants.{Some};
 ghost use Rattle.chart.specs.Build.{laid-out, link-answer};
 ghost use Rattle.chart.specs.Charts.{layout};
-ghost use Rattle.tour.specs.Sample.{sample-answer, steps-of, refusal-of};
+ghost use Rattle.tour.specs.Sample.{sample-answer, steps-of, refusal-of, sets-of-tour};
 ghost use Rattle.tour.specs.Worked.{Worked};
 use chart::Chart;
 use chart::ChartRefusal;
@@ -52,6 +53,33 @@ pub fn sample_steps(chart: &Chart) -> Option<Steps>
         joined: join.profile(),
         column: join.column(Side::Left),
         reply: join.reply(Side::Left),
+    })
+}
+
+// The sets that the tour's rules and questions are made of.
+#[derive(Clone, Copy)]
+pub struct Sets {
+    pub lots: SmallSet,
+    pub berths: SmallSet,
+    pub ends: SmallSet,
+    pub denied: SmallSet,
+    pub wide: SmallSet,
+    pub link: SmallSet,
+}
+
+// 0,1 and 3,4 and 0,4 and 0,3 and 0,3,4 and, as a path, link 0.
+pub fn sample_sets() -> Option<Sets>
+    ensures { λ r. ⌜ r ≡ Some sets-of-tour ⌝ }
+{
+    let zero = SmallSet::single(0)?;
+    let denied = zero.insert(3)?;
+    Some(Sets {
+        lots: zero.insert(1)?,
+        berths: SmallSet::single(3)?.insert(4)?,
+        ends: zero.insert(4)?,
+        denied,
+        wide: denied.insert(4)?,
+        link: zero,
     })
 }
 
