@@ -3,13 +3,14 @@ use mathlib.Core.Path.{_≡_, refl, sym, ap, _∙_}
 use mathlib.Core.Bool.{Bool, true, false, cond, not, _&&_, _||_}
 use mathlib.Core.List.{List, [], _∷_}
 use Prim.Native.Nat.{ℕ, zero, suc, _+_, _<_, _≤_}
+use native.Mathlib.Nat.{zero-add}
 use native.Mathlib.Omega.{arith}
 use lib.Dec.{eqb}
 use lib.ListN.{length, getD, set, drop}
 use Rattle.std.specs.declared.option.Option.{Option}
 use Rattle.std.specs.declared.option.Option.the-variants.{Some, None}
 use Rattle.std.specs.declared.result.Result.the-variants.{Ok, Err}
-use Rattle.std.specs.Options.{Cases, isSome}
+use Rattle.std.specs.Options.{Cases, isSome, mapped}
 use Rattle.std.specs.shelf.Lists.{kept-by}
 use Rattle.std.proofs.shelf.Lists.{at-drop-more, at-drop-all, getD-read}
 use Rattle.std.proofs.shelf.Tests.{false≢true, true≢false, eqb-true, and-parts, not-true, not-from-true, not-from-false, eq-eqb, ne-eqb, cond-true, cond-false, both-ways, or-left, or-right, or-parts, or-from, and-from}
@@ -22,7 +23,7 @@ use Rattle.policy.specs.Viewed.{slot-views}
 use Rattle.policy.specs.Reading.{granted}
 use Rattle.policy.specs.Same.{Same, keep, swap, chain}
 use Rattle.policy.specs.Books.{in-force, apart, place-answer, withdrawal-list}
-use Rattle.books.specs.Slots.{held, Holds, Free}
+use Rattle.books.specs.Slots.{held, place-of, numbered, is-free, Holds, Free}
 use Rattle.policy.proofs.Orders.{same-refl}
 
 clash : {r : Rule} → _≡_ {A = Option Rule} None (Some r) → ⊥
@@ -98,6 +99,31 @@ held-emptied (Some q ∷ slots) (suc i) r at distinct =
 or-alone : (b : Bool) → (b || false) ≡ true → b ≡ true
 or-alone true k = refl
 or-alone false k = k
+
+shifted : (i : ℕ) (o : Option ℕ) → mapped (λ (k : ℕ). k + i) (mapped (λ (k : ℕ). k + 1) o) ≡ mapped (λ (k : ℕ). k + (i + 1)) o
+shifted i None = refl
+shifted i (Some k) = ap Some (omega arith)
+
+-- a turn of a search for the first place of an element that passes, where x was read at i
+module _ {X : Type 0} (p : X → Bool) (xs : List X) (i : ℕ) where
+  place-step : (x : X) → i < length xs → x ≡ getD xs i x → place-of p (drop i xs) ≡ cond (p x) (Some 0) (mapped (λ (k : ℕ). k + 1) (place-of p (drop (i + 1) xs)))
+  place-step x below read =
+      at-drop-more (place-of p) xs i x below ∙ ap (λ y. cond (p y) (Some 0) (mapped (λ (k : ℕ). k + 1) (place-of p (drop (i + 1) xs)))) (sym read)
+
+  pub place-found : (x : X) → i < length xs → x ≡ getD xs i x → p x ≡ true → mapped (λ (k : ℕ). k + i) (place-of p (drop i xs)) ≡ Some i
+  place-found x below read h =
+      ap (mapped (λ (k : ℕ). k + i)) (place-step x below read ∙ cond-true (p x) (Some 0) (mapped (λ (k : ℕ). k + 1) (place-of p (drop (i + 1) xs))) h) ∙ ap Some (zero-add i)
+
+  pub place-on : (x : X) → i < length xs → x ≡ getD xs i x → p x ≡ false → mapped (λ (k : ℕ). k + (i + 1)) (place-of p (drop (i + 1) xs)) ≡ mapped (λ (k : ℕ). k + i) (place-of p (drop i xs))
+  place-on x below read h =
+      sym (ap (mapped (λ (k : ℕ). k + i)) (place-step x below read ∙ cond-false (p x) (Some 0) (mapped (λ (k : ℕ). k + 1) (place-of p (drop (i + 1) xs))) h) ∙ shifted i (place-of p (drop (i + 1) xs)))
+
+  pub place-none : length xs ≤ i → mapped (λ (k : ℕ). k + i) (place-of p (drop i xs)) ≡ None
+  place-none past = ap (mapped (λ (k : ℕ). k + i)) (at-drop-all (place-of p) xs i past)
+
+pub place-start : (o : Option ℕ) → mapped (λ (k : ℕ). k + 0) o ≡ o
+place-start None = refl
+place-start (Some k) = ap Some (omega arith)
 
 -- a turn of a loop over the slots, where x was read at i
 module _ (slots : List (Option Rule)) (i : ℕ) (x : Option Rule) (below : i < length slots) (read : x ≡ getD slots i x) where

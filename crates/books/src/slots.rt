@@ -10,7 +10,7 @@ ghost use Rattle.rules.specs.Rules.{well-formed};
 ghost use Rattle.policy.specs.Reading.{exact-reading};
 ghost use Rattle.policy.specs.Same.{Same};
 ghost use Rattle.policy.specs.Books.{in-force, apart, place-answer, rules-after, entry-answer, entry-list, withdrawal-answer, withdrawal-list};
-ghost use Rattle.books.specs.Slots.{held, Holds, Free, exact-fits};
+ghost use Rattle.books.specs.Slots.{held, place-of, numbered, is-free, Holds, Free, exact-fits};
 use chart::Chart;
 use policy::BookRefusal;
 use policy::SlotViewed;
@@ -22,7 +22,7 @@ use rules::check_rule;
 
 // Whether a slot holds the rule of this number.
 fn has_number(slot: &Option<Rule>, number: u16) -> bool
-    ensures { λ r. ⌜ r ≡ in-force number (held (now (slot .entry) ∷ [])) ⌝ }
+    ensures { λ r. ⌜ r ≡ numbered number (now (slot .entry)) ⌝ }
 {
     match slot {
         Some(rule) => rule.given.number == number,
@@ -32,7 +32,8 @@ fn has_number(slot: &Option<Rule>, number: u16) -> bool
 
 // The slot that holds the rule of this number.
 pub fn slot_of(slots: &[Option<Rule>], number: u16) -> Option<usize>
-    ensures { λ r. ⌜ Cases r (in-force number (held (now (slots .entry))) ≡ false) (λ i. Holds (now (slots .entry)) i number) ⌝ }
+    ensures value { λ r. ⌜ r ≡ place-of (numbered number) (now (slots .entry)) ⌝ }
+    ensures finds { λ r. ⌜ Cases r (in-force number (held (now (slots .entry))) ≡ false) (λ i. Holds (now (slots .entry)) i number) ⌝ }
 {
     for (i, slot) in slots.iter().enumerate() {
         if has_number(slot, number) {
@@ -49,9 +50,10 @@ pub fn holds_number(slots: &[Option<Rule>], number: u16) -> bool
     slot_of(slots, number).is_some()
 }
 
-// A slot that holds no rule.
+// The first slot that holds no rule.
 pub fn free_slot(slots: &[Option<Rule>]) -> Option<usize>
-    ensures { λ r. ⌜ Cases r (length (held (now (slots .entry))) ≡ length (now (slots .entry))) (λ i. Free (now (slots .entry)) i) ⌝ }
+    ensures value { λ r. ⌜ r ≡ place-of is-free (now (slots .entry)) ⌝ }
+    ensures finds { λ r. ⌜ Cases r (length (held (now (slots .entry))) ≡ length (now (slots .entry))) (λ i. Free (now (slots .entry)) i) ⌝ }
 {
     for (i, slot) in slots.iter().enumerate() {
         if slot.is_none() {

@@ -3,6 +3,8 @@ mod any;
 mod book;
 mod calls;
 mod grown;
+mod pairs;
+mod table;
 
 pub use any::AnyBook;
 pub use any::AnyBooked;

@@ -1,7 +1,5 @@
-// The members of a list of views: the views, and all that members compose to.
+// The members of a list of views: the views, and all that members compose to. What they are and what holds of them;
+// the code that works them out stands with the book that reads them.
 mod laws;
-mod pairs;
-mod table;
 
 pub use laws::members_laws;
-pub use table::grow;

@@ -16,7 +16,7 @@ use Rattle.tariff.specs.Bytes.{capped, widths}
 module _ (l : Layout) (s : SmallSet) (i total : ℕ) where
   -- one more member, and one number that is none
   pub weighed-turn : (next : ℕ) → i < 64 → ((has s i ≡ true) × (next ≡ capped (total + width-of l i))) ⊎ ((has s i ≡ false) × (next ≡ total))
-    → capped (next + widths l (members-from s (i + 1))) ≡ capped (total + widths l (members-from s i))
+      → capped (next + widths l (members-from s (i + 1))) ≡ capped (total + widths l (members-from s i))
   weighed-turn next below (inl w) =
       let step = ap (widths l) (members-step s i below ∙ cond-true (has s i) (i ∷ members-from s (i + 1)) (members-from s (i + 1)) (w .0)) in
       let e = w .1 in

@@ -52,11 +52,7 @@ pub impl Tariff for GradeTariff as GradesPriced {
     }
 
     fn join(&self, a: Option<Grade>, b: Option<Grade>) -> Option<Grade> {
-        if rank_of(a) <= rank_of(b) {
-            b
-        } else {
-            a
-        }
+        if rank_of(a) <= rank_of(b) { b } else { a }
     }
 
     fn at_most(&self, a: Option<Grade>, b: Option<Grade>) -> bool {

@@ -4,4 +4,4 @@ use Rattle.books.proofs.Held.{found-in-force}
 use Rattle.books.proofs.slots.holds_number.Needs as need
 
 pub returns : need.returns
-returns c = c .is-some .ensures ∙ found-in-force (now (c .args .slots)) (c .args .number) (c .slot-of .result) (c .slot-of .ensures)
+returns c = c .is-some .ensures ∙ found-in-force (now (c .args .slots)) (c .args .number) (c .slot-of .result) (c .slot-of .ensures .finds)

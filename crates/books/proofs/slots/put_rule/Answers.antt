@@ -28,7 +28,7 @@ returns-then-holds-number c =
 pub returns-in-rest : need.returns-in-rest
 returns-in-rest c =
     let rules = held (now (c .args .slots)) in
-    let full : 64 < length (c .args .rule .given ∷ rules) = omega (arith, c .in-rest .ensures tt, c .pre) in
+    let full : 64 < length (c .args .rule .given ∷ rules) = omega (arith, c .in-rest .ensures tt .finds, c .pre) in
     record {
       answer = place-unfit exact-fits rules (c .args .rule .given) (sym (c .if-holds-number .ensures tt)) (lt-leb (length (c .args .rule .given ∷ rules)) 64 full);
       after = same-refl rules;
@@ -40,7 +40,7 @@ pub returns : need.returns
 returns c =
     let slots = now (c .args .slots) in
     let r = c .args .rule in
-    let free = c .in-Some .ensures tt in
+    let free = c .in-Some .ensures tt .finds in
     let unused = sym (c .if-holds-number .ensures tt) in
     let fewer = held-fewer slots (c .in-Some .i) (free .within) (free .empty) in
     let filled = held-filled slots (c .in-Some .i) r (free .within) (free .empty) in

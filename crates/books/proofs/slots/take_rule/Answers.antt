@@ -19,8 +19,8 @@ pub returns-in-rest : need.returns-in-rest
 returns-in-rest c =
     let rules = held (now (c .args .slots)) in
     record {
-      answer = sym (ap (λ b. cond b (Ok tt) (Err NotInForce)) (c .in-rest .ensures tt));
-      after = subst (Same rules) (sym (absent rules (c .args .number) (c .in-rest .ensures tt))) (same-refl rules);
+      answer = sym (ap (λ b. cond b (Ok tt) (Err NotInForce)) (c .in-rest .ensures tt .finds));
+      after = subst (Same rules) (sym (absent rules (c .args .number) (c .in-rest .ensures tt .finds))) (same-refl rules);
       distinct = c .pre;
       formed = λ l h. h;
     }
@@ -29,7 +29,7 @@ pub returns : need.returns
 returns c =
     let slots = now (c .args .slots) in
     let other : RuleRecord → Bool = λ r. not (eqb (r .number) (c .args .number)) in
-    let h = c .in-Some .ensures tt in
+    let h = c .in-Some .ensures tt .finds in
     let gone = held-emptied slots (c .in-Some .i) (h .rule) (h .there) (c .pre) ∙ ap (withdrawal-list (held slots)) (h .named) in
     record {
       answer = sym (ap (λ b. cond b (Ok tt) (Err NotInForce)) (holds-in-force slots (c .in-Some .i) (c .args .number) h));

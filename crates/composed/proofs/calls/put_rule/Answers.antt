@@ -37,7 +37,7 @@ returns-in-rest c =
       sized = search needs;
       wide = search needs;
       kept = c .pre .kept;
-      answer = place-unfit (composed-fits l) rules r (sym (c .if-holds-number .ensures tt)) (full-unfit l rules r (omega (arith, c .in-rest .ensures tt, c .told-slots)));
+      answer = place-unfit (composed-fits l) rules r (sym (c .if-holds-number .ensures tt)) (full-unfit l rules r (omega (arith, c .in-rest .ensures tt .finds, c .told-slots)));
       after = same-refl rules;
     }
 
@@ -46,7 +46,7 @@ returns-in-rest-grow-slots c =
     let ch = now (c .args .chart) in
     let slots = now (c .args .slots) in
     let r = c .args .rule in
-    let free = c .in-Some .ensures tt in
+    let free = c .in-Some .ensures tt .finds in
     let filled = held-filled slots (c .in-Some .i) r (free .within) (free .empty) in
     record {
       sized = search needs;
@@ -64,7 +64,7 @@ returns c =
     let slots = now (c .args .slots) in
     let r = c .args .rule in
     let i = c .in-Some .i in
-    let free = c .in-Some .ensures tt in
+    let free = c .in-Some .ensures tt .finds in
     let unused = sym (c .if-holds-number .ensures tt) in
     let filled = held-filled slots i r (free .within) (free .empty) in
     let fewer = held-fewer slots i (free .within) (free .empty) in

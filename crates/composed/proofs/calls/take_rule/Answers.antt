@@ -34,15 +34,15 @@ returns-in-rest c =
       counted = c .pre .counted;
       few = c .pre .few;
       just = c .pre .just;
-      answer = sym (ap (λ b. cond b (Ok tt) (Err NotInForce)) (c .in-rest .ensures tt));
-      after = subst (Same rules) (sym (absent rules (c .args .number) (c .in-rest .ensures tt))) (same-refl rules);
+      answer = sym (ap (λ b. cond b (Ok tt) (Err NotInForce)) (c .in-rest .ensures tt .finds));
+      after = subst (Same rules) (sym (absent rules (c .args .number) (c .in-rest .ensures tt .finds))) (same-refl rules);
     }
 
 pub unreachable-requires : need.unreachable-requires
 unreachable-requires c κs =
     let ch = now (c .args .chart) in
     let slots = now (c .args .slots) in
-    let h = c .in-Some .ensures tt in
+    let h = c .in-Some .ensures tt .finds in
     let gone : held (set slots (c .in-Some .i) None) ≡ withdrawal-list (held slots) (c .args .number) =
     held-emptied slots (c .in-Some .i) (h .rule) (h .there) (c .pre .distinct) ∙ ap (withdrawal-list (held slots)) (h .named) in
     let few = fewer-few ch (held slots) (c .args .number) (c .pre .few) in
@@ -54,7 +54,7 @@ returns c =
     let l = layout (now (c .args .chart)) in
     let slots = now (c .args .slots) in
     let other : RuleRecord → Bool = λ r. not (eqb (r .number) (c .args .number)) in
-    let h = c .in-Some .ensures tt in
+    let h = c .in-Some .ensures tt .finds in
     let after = set slots (c .in-Some .i) None in
     let gone : held after ≡ withdrawal-list (held slots) (c .args .number) =
     held-emptied slots (c .in-Some .i) (h .rule) (h .there) (c .pre .distinct) ∙ ap (withdrawal-list (held slots)) (h .named) in

@@ -17,12 +17,16 @@ loop-a-again c =
     elim (c .if-contains .came) [
       | then-contains w ↦
           let e : c .if-contains .total ≡ capped (c .loop-a .total + width-of l i) =
-            w .total-is ∙ w .saturating-add-total .ensures ∙ ap (λ n. capped (c .loop-a .total + n)) (w .from .ensures ∙ w .width .ensures) in
-          (weighed-turn l (c .args .shown) i (c .loop-a .total) (c .if-contains .total) (c .loop-a-test .taken)
-            (inl (sym (c .contains .ensures) ∙ w .if-contains .taken, e)) ∙ c .loop-a .inv .0, omega arith)
-      | else-contains w ↦
-          (weighed-turn l (c .args .shown) i (c .loop-a .total) (c .if-contains .total) (c .loop-a-test .taken)
-            (inr (sym (c .contains .ensures) ∙ w .if-contains .left, w .total-is)) ∙ c .loop-a .inv .0, omega (arith, w .total-is, c .loop-a .inv .1))
+          w .total-is ∙ w .saturating-add-total .ensures ∙ ap (λ n. capped (c .loop-a .total + n)) (w .from .ensures ∙ w .width .ensures) in (
+            weighed-turn l (c .args .shown) i (c .loop-a .total) (c .if-contains .total) (c .loop-a-test .taken)
+                (inl (sym (c .contains .ensures) ∙ w .if-contains .taken, e)) ∙ c .loop-a .inv .0,
+            omega arith,
+          )
+      | else-contains w ↦ (
+        weighed-turn l (c .args .shown) i (c .loop-a .total) (c .if-contains .total) (c .loop-a-test .taken)
+            (inr (sym (c .contains .ensures) ∙ w .if-contains .left, w .total-is)) ∙ c .loop-a .inv .0,
+        omega (arith, w .total-is, c .loop-a .inv .1),
+      )
     ]
 
 pub returns : need.returns

@@ -4,10 +4,10 @@ use mathlib.Core.List.{List, []}
 use native.Mathlib.Omega.{arith}
 use Rattle.chart.specs.Charts.{layout}
 use Rattle.rules.specs.declared.view.View.{View}
 use Rattle.members.specs.Members.{with-new}
 use Rattle.members.specs.Table.{Growing}
 use Rattle.members.proofs.Growing.{growing-start, growing-le}
-use Rattle.members.proofs.table.fill.Needs as need
+use Rattle.composed.proofs.table.fill.Needs as need
 
 pub returns-in-rest : need.returns-in-rest
 returns-in-rest c =

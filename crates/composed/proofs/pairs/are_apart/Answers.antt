@@ -3,8 +3,8 @@ use mathlib.Core.Path.{ap, _∙_}
 use Rattle.sets.specs.Sets.{disjoint}
 use Rattle.chart.specs.Charts.{layout}
 use Rattle.rules.specs.Relations.{touched}
 use Rattle.members.specs.Compose.{share-none}
-use Rattle.members.proofs.pairs.are_apart.Needs as need
+use Rattle.composed.proofs.pairs.are_apart.Needs as need
 
 pub returns : need.returns
 unfolding share-none

@@ -1,6 +1,6 @@
 use mathlib.Core.Path.{ap, _∙_}
 use Rattle.members.specs.Compose.{lies-across, bridges}
-use Rattle.members.proofs.pairs.is_bridged.Needs as need
+use Rattle.composed.proofs.pairs.is_bridged.Needs as need
 
 pub returns-in-Some : need.returns-in-Some
 unfolding bridges

@@ -4,11 +4,11 @@ use mathlib.Core.List.{[], _∷_}
 use native.Mathlib.Omega.{arith}
 use lib.ListN.{take}
 use Rattle.chart.specs.Charts.{layout}
 use Rattle.members.specs.Compose.{compositions}
 use Rattle.members.specs.Members.{with-new}
 use Rattle.members.proofs.Turns.{link-took, link-passed, link-over, link-done, all-links, pair-never, new-none, front-is}
-use Rattle.members.proofs.table.add_pair.Needs as need
-use Rattle.members.proofs.table.add_pair.Needs.{then-is-bridged·in-Some, else-is-bridged}
+use Rattle.composed.proofs.table.add_pair.Needs as need
+use Rattle.composed.proofs.table.add_pair.Needs.{then-is-bridged·in-Some, else-is-bridged}
 
 pub returns-then-not-may-compose : need.returns-then-not-may-compose
 returns-then-not-may-compose c =

@@ -3,10 +3,10 @@ use mathlib.Core.Path.{sym}
 use native.Mathlib.Omega.{arith}
 use lib.ListN.{take, getD}
 use Rattle.chart.specs.Charts.{layout}
 use Rattle.members.specs.Compose.{compositions}
 use Rattle.members.specs.Table.{no-view}
 use Rattle.members.proofs.Turns.{new-none, row-more, row-over}
-use Rattle.members.proofs.table.add_row.Needs as need
+use Rattle.composed.proofs.table.add_row.Needs as need
 
 pub loop-j-holds : need.loop-j-holds
 loop-j-holds c = (omega arith, sym (new-none (take (c .args .n) (now (c .args .table)))))

@@ -3,9 +3,9 @@ use Prim.Native.Nat.{_≤_}
 use lib.ListN.{take}
 use Rattle.std.specs.shelf.Lists.{joined}
 use Rattle.chart.specs.Charts.{layout}
 use Rattle.members.specs.Compose.{compositions}
 use Rattle.members.specs.Members.{with-new}
-use Rattle.members.proofs.table.add_row.Given as given
+use Rattle.composed.proofs.table.add_row.Given as given
 
 -- the views before place j are done
 abbrev pub Inv-loop-j : given.InvT-loop-j

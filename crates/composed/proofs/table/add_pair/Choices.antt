@@ -2,10 +2,10 @@ use mathlib.Core.Path.{_≡_}
 use Prim.Native.Nat.{_≤_}
 use lib.ListN.{take}
 use Rattle.chart.specs.Charts.{layout}
 use Rattle.members.specs.Compose.{compositions}
 use Rattle.members.specs.Members.{with-new}
 use Rattle.members.proofs.Turns.{from-link}
-use Rattle.members.proofs.table.add_pair.Given as given
+use Rattle.composed.proofs.table.add_pair.Given as given
 
 -- what is in the table, with the compositions over links still to come
 abbrev pub Inv-loop-k : given.InvT-loop-k

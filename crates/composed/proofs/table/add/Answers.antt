@@ -4,9 +4,9 @@ use Prim.Native.Nat.{_-_}
 use native.Mathlib.Omega.{arith}
 use lib.ListN.{length, take}
 use Rattle.std.proofs.shelf.Lists.{take-more-set, length-push, length-take-le}
 use Rattle.members.specs.Members.{among}
 use Rattle.members.proofs.Turns.{new-there, new-put}
-use Rattle.members.proofs.table.add.Needs as need
+use Rattle.composed.proofs.table.add.Needs as need
 
 pub returns-then-is-among : need.returns-then-is-among
 returns-then-is-among c =

@@ -5,10 +5,10 @@ use Prim.Native.Nat.{_+_}
 use native.Mathlib.Omega.{arith}
 use lib.ListN.{take, drop, getD}
 use Rattle.std.proofs.shelf.Lists.{at-drop-more, at-drop-all}
 use Rattle.members.specs.Members.{with-new}
 use Rattle.members.specs.Table.{no-view}
 use Rattle.members.proofs.Turns.{new-none, new-step, new-over}
-use Rattle.members.proofs.table.add_given.Needs as need
+use Rattle.composed.proofs.table.add_given.Needs as need
 
 pub loop-v-holds : need.loop-v-holds
 loop-v-holds c = (omega arith, refl)

@@ -2,8 +2,8 @@ use mathlib.Core.Path.{_≡_}
 use mathlib.Core.List.{[]}
 use Prim.Native.Nat.{_≤_}
 use lib.ListN.{take, drop}
 use Rattle.members.specs.Members.{with-new}
-use Rattle.members.proofs.table.add_given.Given as given
+use Rattle.composed.proofs.table.add_given.Given as given
 
 -- what is in the table, with the views still to come
 abbrev pub Inv-loop-v : given.InvT-loop-v

@@ -1,7 +1,7 @@
 use mathlib.Core.Path.{_≡_}
 use lib.ListN.{drop}
 use Rattle.members.specs.Members.{among}
-use Rattle.members.proofs.table.is_among.Given as given
+use Rattle.composed.proofs.table.is_among.Given as given
 
 -- what is left decides
 abbrev pub Inv-loop-w : given.InvT-loop-w

@@ -3,8 +3,8 @@ use Prim.Native.Nat.{_-_, _≤_}
 use lib.ListN.{take}
 use Rattle.chart.specs.Charts.{layout}
 use Rattle.rules.specs.declared.view.View.{View}
 use Rattle.members.specs.Table.{Growing}
-use Rattle.members.proofs.table.close.Given as given
+use Rattle.composed.proofs.table.close.Given as given
 
 -- the first i views have been composed with one another
 abbrev pub Inv-loop-i : given.InvT-loop-i

@@ -8,13 +8,13 @@ use Rattle.std.specs.shelf.Lists.{joined}
 use Rattle.std.proofs.shelf.Lists.{length-take-le}
 use Rattle.chart.specs.Charts.{layout}
 use Rattle.rules.specs.declared.view.View.{View}
 use Rattle.members.specs.Compose.{compositions}
 use Rattle.members.specs.Members.{with-new}
 use Rattle.members.specs.Table.{no-view, Growing}
 use Rattle.members.proofs.Views.{new-longer}
 use Rattle.members.proofs.Growing.{growing-more, growing-le, growing-end}
 use Rattle.members.proofs.Turns.{row-same, row-is}
-use Rattle.members.proofs.table.close.Needs as need
+use Rattle.composed.proofs.table.close.Needs as need
 
 pub loop-i-holds : need.loop-i-holds
 loop-i-holds c = (omega arith, c .pre .1, λ given g. g)

@@ -122,7 +122,7 @@ fn fill(chart: &Chart, given: &[View], table: &mut [View]) -> Option<usize>
 
 // Fills the table from its front with the members of the given views, each once, and returns their number; none where
 // there are more than 256.
-pub fn grow(chart: &Chart, given: &[View], table: &mut [View; 256]) -> Option<usize>
+pub(crate) fn grow(chart: &Chart, given: &[View], table: &mut [View; 256]) -> Option<usize>
     ensures { λ r. ⌜ Grown (layout (now (chart .entry))) (now (given .entry)) (now (table .exit)) r ⌝ }
 {
     fill(chart, given, table)
