@@ -114,6 +114,14 @@ mod tests {
         }
     }
 
+    fn enter<B: Book>(book: &mut B, given: RuleRecord) -> u16 {
+        code(book.enter(given))
+    }
+
+    fn withdraw<B: Book>(book: &mut B, number: u16) -> u16 {
+        code(book.withdraw(number))
+    }
+
     fn layer_code<L: Drop>(answer: Result<L, LayerRefusal>) -> u16 {
         match answer {
             Ok(_) => 0,
@@ -143,7 +151,7 @@ mod tests {
     // A book of either kind with these rules.
     fn with_rules(mut book: AnyBook, rules: &[RuleRecord]) -> Result<AnyBook, Fail> {
         for given in rules {
-            check_eq(code(book.enter(*given)), 0)?;
+            check_eq(enter(&mut book, *given), 0)?;
         }
         Ok(book)
     }
@@ -159,7 +167,7 @@ mod tests {
     #[test]
     fn rule_questions() -> Result<(), Fail> {
         let mut before = ExactBook::new(chain()?);
-        check_eq(code(before.enter(rule(500, 2, &[0, 1], &[]))), 0)?;
+        check_eq(enter(&mut before, rule(500, 2, &[0, 1], &[])), 0)?;
         for (given, expected) in [
             (rule(0, 3, &[], &[2]), 20),
             (rule(1000, 0, &[0], &[]), 20),
@@ -180,7 +188,7 @@ mod tests {
             (rule(500, 0, &[0], &[]), 24),
         ] {
             let mut book = before;
-            check_eq(code(book.enter(given)), expected)?;
+            check_eq(enter(&mut book, given), expected)?;
             check(alike(&book, &before) == (expected > 0))?;
         }
         Ok(())
@@ -190,32 +198,32 @@ mod tests {
     #[test]
     fn cycle() -> Result<(), Fail> {
         let mut book = ExactBook::new(worked([(0, 3), (1, 4)])?);
-        check_eq(code(book.enter(rule(1, 0, &[0, 3], &[0, 1]))), 23)?;
-        check_eq(code(book.enter(rule(1, 0, &[0, 3], &[0]))), 0)?;
-        check_eq(code(book.enter(rule(2, 0, &[0, 3], &[1]))), 0)
+        check_eq(enter(&mut book, rule(1, 0, &[0, 3], &[0, 1])), 23)?;
+        check_eq(enter(&mut book, rule(1, 0, &[0, 3], &[0])), 0)?;
+        check_eq(enter(&mut book, rule(2, 0, &[0, 3], &[1])), 0)
     }
 
     // 64 rules of equal content fit, in any book on the worked chart.
     fn rule_limit<B: Book + Copy>(mut book: B) -> Result<(), Fail> {
-        check_eq(code(book.withdraw(1)), 26)?;
+        check_eq(withdraw(&mut book, 1), 26)?;
         for number in 1..65u16 {
-            check_eq(code(book.enter(rule(number, 0, &[0], &[]))), 0)?;
+            check_eq(enter(&mut book, rule(number, 0, &[0], &[])), 0)?;
         }
         let full = book;
-        check_eq(code(book.enter(rule(65, 0, &[0], &[]))), 25)?;
-        check_eq(code(book.enter(rule(65, 1, &[3], &[]))), 25)?;
-        check_eq(code(book.enter(rule(64, 1, &[3], &[]))), 24)?;
-        check_eq(code(book.enter(rule(64, 1, &[7], &[]))), 22)?;
+        check_eq(enter(&mut book, rule(65, 0, &[0], &[])), 25)?;
+        check_eq(enter(&mut book, rule(65, 1, &[3], &[])), 25)?;
+        check_eq(enter(&mut book, rule(64, 1, &[3], &[])), 24)?;
+        check_eq(enter(&mut book, rule(64, 1, &[7], &[])), 22)?;
         for number in [0, 65, 999, 65535] {
-            check_eq(code(book.withdraw(number)), 26)?;
+            check_eq(withdraw(&mut book, number), 26)?;
         }
         check(alike(&book, &full))?;
-        check_eq(code(book.withdraw(33)), 0)?;
+        check_eq(withdraw(&mut book, 33), 0)?;
         check(alike(&book, &full))?;
-        check_eq(code(book.withdraw(33)), 26)?;
-        check_eq(code(book.enter(rule(65, 1, &[3], &[]))), 0)?;
+        check_eq(withdraw(&mut book, 33), 26)?;
+        check_eq(enter(&mut book, rule(65, 1, &[3], &[])), 0)?;
         check(sees(&book, 1, &[3], &[], &[]) && !sees(&full, 1, &[3], &[], &[]))?;
-        check_eq(code(book.enter(rule(33, 0, &[0], &[]))), 25)
+        check_eq(enter(&mut book, rule(33, 0, &[0], &[])), 25)
     }
 
     #[test]
@@ -228,16 +236,16 @@ mod tests {
 
     // What one rule lets be seen, in any book on the worked chart.
     fn one_rule<B: Book>(book: &mut B) -> Result<(), Fail> {
-        check_eq(code(book.enter(rule(7, 1, &[0, 1], &[]))), 0)?;
+        check_eq(enter(book, rule(7, 1, &[0, 1], &[])), 0)?;
         check(!sees(book, 1, &[0, 1], &[], &[2]))?;
-        check_eq(code(book.withdraw(7)), 0)?;
-        check_eq(code(book.enter(rule(7, 1, &[0, 1, 2], &[]))), 0)?;
+        check_eq(withdraw(book, 7), 0)?;
+        check_eq(enter(book, rule(7, 1, &[0, 1, 2], &[])), 0)?;
         check(sees(book, 1, &[0, 1], &[], &[2]))?;
         check(sees(book, 1, &[], &[], &[]))?;
         check(!sees(book, 1, &[0, 3], &[], &[2]) && !sees(book, 1, &[0], &[], &[3]))?;
         check(!sees(book, 0, &[0, 1], &[], &[2]) && !sees(book, 2, &[0, 1], &[], &[2]))?;
         check(!sees(book, 1, &[0, 1], &[0], &[2]))?;
-        check_eq(code(book.withdraw(7)), 0)?;
+        check_eq(withdraw(book, 7), 0)?;
         check(!sees(book, 1, &[0, 1], &[], &[2]) && !sees(book, 1, &[], &[], &[]))
     }
 
@@ -265,19 +273,19 @@ mod tests {
         check(!sees(&both, 1, &[2], &[0], &[]) && !sees(&both, 1, &[0], &[0, 1], &[]))?;
         for number in [1, 2] {
             let mut one = both;
-            check_eq(code(one.withdraw(number)), 0)?;
+            check_eq(withdraw(&mut one, number), 0)?;
             check(!sees(&one, 1, &[0, 4], &[0], &[]))?;
             check(sees(&one, 1, &[0], &[], &[]) == (number == 2))?;
             check(sees(&one, 1, &[4], &[], &[]) == (number == 1))?;
         }
         let mut three = both;
-        check_eq(code(three.enter(rule(3, 1, &[5, 6], &[]))), 0)?;
+        check_eq(enter(&mut three, rule(3, 1, &[5, 6], &[])), 0)?;
         check(sees(&three, 1, &[1, 6], &[0, 1], &[4]))?;
-        check_eq(code(three.withdraw(2)), 0)?;
+        check_eq(withdraw(&mut three, 2), 0)?;
         check(!sees(&three, 1, &[1, 6], &[0, 1], &[]))
     }
 
-    // Rules of two servers do not compose, nor those that lack an end of the link.
+    // Rules of two servers do not compose, nor those that lack an end of the link or share a relation.
     #[test]
     fn no_composition() -> Result<(), Fail> {
         for (a, b) in [
@@ -304,9 +312,9 @@ mod tests {
         for n in 0..15u16 {
             let left = from_bits(2 * n + 1);
             let right = from_bits(32 * (2 * n + 1));
-            check_eq(code(book.enter(record(2 * n + 1, 0, left, set_of(&[])))), 0)?;
+            check_eq(enter(&mut book, record(2 * n + 1, 0, left, set_of(&[]))), 0)?;
             check_eq(
-                code(book.enter(record(2 * n + 2, 0, right, set_of(&[])))),
+                enter(&mut book, record(2 * n + 2, 0, right, set_of(&[]))),
                 0,
             )?;
         }
@@ -316,25 +324,25 @@ mod tests {
     #[test]
     fn member_limit() -> Result<(), Fail> {
         let mut book = many_members()?;
-        check_eq(code(book.enter(rule(31, 1, &[10], &[]))), 0)?;
+        check_eq(enter(&mut book, rule(31, 1, &[10], &[])), 0)?;
         let full = book;
-        check_eq(code(book.enter(rule(32, 1, &[11], &[]))), 25)?;
-        check_eq(code(book.enter(rule(31, 1, &[11], &[]))), 24)?;
-        check_eq(code(book.enter(rule(32, 1, &[12], &[]))), 22)?;
+        check_eq(enter(&mut book, rule(32, 1, &[11], &[])), 25)?;
+        check_eq(enter(&mut book, rule(31, 1, &[11], &[])), 24)?;
+        check_eq(enter(&mut book, rule(32, 1, &[12], &[])), 22)?;
         check(alike(&book, &full))?;
         // of equal content, so no more members
-        check_eq(code(book.enter(rule(33, 1, &[10], &[]))), 0)?;
-        check_eq(code(book.enter(rule(34, 0, &[0, 5], &[0]))), 0)?;
+        check_eq(enter(&mut book, rule(33, 1, &[10], &[])), 0)?;
+        check_eq(enter(&mut book, rule(34, 0, &[0, 5], &[0])), 0)?;
         check(alike(&book, &full))?;
-        check_eq(code(book.withdraw(31)), 0)?;
+        check_eq(withdraw(&mut book, 31), 0)?;
         check(alike(&book, &full))?;
-        check_eq(code(book.enter(rule(35, 1, &[11], &[]))), 25)?;
-        check_eq(code(book.withdraw(33)), 0)?;
+        check_eq(enter(&mut book, rule(35, 1, &[11], &[])), 25)?;
+        check_eq(withdraw(&mut book, 33), 0)?;
         check(!sees(&book, 1, &[10], &[], &[]) && sees(&full, 1, &[10], &[], &[]))?;
-        check_eq(code(book.enter(rule(35, 1, &[11], &[]))), 0)?;
+        check_eq(enter(&mut book, rule(35, 1, &[11], &[])), 0)?;
         check(sees(&book, 1, &[11], &[], &[]))?;
         let before = book;
-        check_eq(code(book.enter(rule(36, 0, &[10, 11], &[]))), 25)?;
+        check_eq(enter(&mut book, rule(36, 0, &[10, 11], &[])), 25)?;
         check(alike(&book, &before))
     }
 
@@ -507,16 +515,16 @@ mod tests {
         ] {
             let mut guarded = stack(empty, 0)?;
             for given in rules {
-                check_eq(code(guarded.enter(given)), 0)?;
+                check_eq(enter(&mut guarded, given), 0)?;
             }
-            check_eq(code(guarded.enter(rule(2, 1, &[0], &[]))), 24)?;
-            check_eq(code(guarded.enter(rule(0, 1, &[0], &[]))), 20)?;
-            check_eq(code(guarded.withdraw(3)), 26)?;
+            check_eq(enter(&mut guarded, rule(2, 1, &[0], &[])), 24)?;
+            check_eq(enter(&mut guarded, rule(0, 1, &[0], &[])), 20)?;
+            check_eq(withdraw(&mut guarded, 3), 26)?;
             check(alike(&guarded, &stack(full, 0)?) && !alike(&guarded, &full))?;
             check(sees(&guarded, 2, &[1, 4], &[0], &[]) == sees(&full, 2, &[1, 4], &[0], &[]))?;
             check(!sees(&guarded, 2, &[0, 3], &[0], &[]))?;
-            check_eq(code(guarded.withdraw(1)), 0)?;
-            check_eq(code(guarded.withdraw(1)), 26)?;
+            check_eq(withdraw(&mut guarded, 1), 0)?;
+            check_eq(withdraw(&mut guarded, 1), 26)?;
             check(!sees(&guarded, 2, &[0], &[], &[]) && sees(&guarded, 2, &[3], &[], &[4]))?;
         }
         Ok(())
