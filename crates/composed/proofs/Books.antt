@@ -49,9 +49,11 @@ granted-fewer q (r ∷ rules) v h = go (q r) h (granted-fewer q rules v)
     go false k rest = or-right (same-view v (r .view)) (among v (granted rules)) (rest k)
 
 -- a table that holds the members of the rules keeps what the book keeps
-pub kept-from : (l : Layout) (slots : List (Option Rule)) (table : List View) (n : ℕ) → apart (held slots) ≡ true → all-of (well-formed l) (held slots) ≡ true
+pub kept-from : (l : Layout) (slots : List (Option Rule)) (table : List View) (n : ℕ) → length slots ≡ 64 → length table ≡ 256 → apart (held slots) ≡ true → all-of (well-formed l) (held slots) ≡ true
     → Holds l (granted (held slots)) table n → Kept l slots table n
-kept-from l slots table n distinct formed h = record {
+kept-from l slots table n sized wide distinct formed h = record {
+  sized = sized;
+  wide = wide;
   distinct = distinct;
   formed = formed;
   counted = h .fits;

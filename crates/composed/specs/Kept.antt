@@ -1,4 +1,4 @@
--- What a composed book keeps: its rules are apart and well formed, and its table holds their members.
+-- What a composed book keeps: 64 slots and 256 places, rules that are apart and well formed, and their members in the table.
 use mathlib.Core.Path.{_≡_}
 use mathlib.Core.Bool.{true}
 use mathlib.Core.List.{List}
@@ -15,6 +15,8 @@ use Rattle.books.specs.Slots.{held}
 use Rattle.composed.specs.Composed.{composed-members}
 
 pub record Kept (l : Layout) (slots : List (Option Rule)) (table : List View) (count : ℕ) : Type 0 where
+  pub sized : length slots ≡ 64
+  pub wide : length table ≡ 256
   pub distinct : apart (held slots) ≡ true
   pub formed : all-of (well-formed l) (held slots) ≡ true
   pub counted : count ≤ 256

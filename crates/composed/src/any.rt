@@ -48,14 +48,14 @@ pub impl Book for AnyBook as AnyBooked {
 
     fn enter(&mut self, given: RuleRecord) -> Result<(), BookRefusal> {
         match *self {
-            AnyBook::Exact(mut book) => {
-                let answer = book.enter(given);
-                *self = AnyBook::Exact(book);
+            AnyBook::Exact(mut exact) => {
+                let answer = exact.enter(given);
+                *self = AnyBook::Exact(exact);
                 answer
             }
-            AnyBook::Composed(mut book) => {
-                let answer = book.enter(given);
-                *self = AnyBook::Composed(book);
+            AnyBook::Composed(mut composed) => {
+                let answer = composed.enter(given);
+                *self = AnyBook::Composed(composed);
                 answer
             }
         }
@@ -63,14 +63,14 @@ pub impl Book for AnyBook as AnyBooked {
 
     fn withdraw(&mut self, number: u16) -> Result<(), BookRefusal> {
         match *self {
-            AnyBook::Exact(mut book) => {
-                let answer = book.withdraw(number);
-                *self = AnyBook::Exact(book);
+            AnyBook::Exact(mut exact) => {
+                let answer = exact.withdraw(number);
+                *self = AnyBook::Exact(exact);
                 answer
             }
-            AnyBook::Composed(mut book) => {
-                let answer = book.withdraw(number);
-                *self = AnyBook::Composed(book);
+            AnyBook::Composed(mut composed) => {
+                let answer = composed.withdraw(number);
+                *self = AnyBook::Composed(composed);
                 answer
             }
         }

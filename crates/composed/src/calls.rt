@@ -38,8 +38,6 @@ fn put_rule(
 ) -> Result<(), BookRefusal>
     requires kept { ⌜ Kept (layout (now chart)) (now slots) (now table) (now count) ⌝ }
     requires formed { ⌜ well-formed (layout (now chart)) (rule .given) ≡ true ⌝ }
-    ensures sized { λ a. ⌜ length (now (slots .exit)) ≡ 64 ⌝ }
-    ensures wide { λ a. ⌜ length (now (table .exit)) ≡ 256 ⌝ }
     ensures kept { λ a. ⌜ Kept (layout (now (chart .entry))) (now (slots .exit)) (now (table .exit)) (now (count .exit)) ⌝ }
     ensures answer { λ a. ⌜ a ≡ place-answer (composed-fits (layout (now (chart .entry)))) (held (now (slots .entry))) (rule .given) ⌝ }
     ensures after { λ a. ⌜ Same (held (now (slots .exit))) (rules-after a (held (now (slots .entry))) (rule .given ∷ held (now (slots .entry)))) ⌝ }
@@ -71,13 +69,7 @@ pub(crate) fn enter_rule(
     given: RuleRecord,
 ) -> Result<(), BookRefusal>
     requires { ⌜ Kept (layout (now chart)) (now slots) (now table) (now count) ⌝ }
-    ensures sized { λ a. ⌜ length (now (slots .exit)) ≡ 64 ⌝ }
-    ensures wide { λ a. ⌜ length (now (table .exit)) ≡ 256 ⌝ }
-    ensures distinct { λ a. ⌜ apart (held (now (slots .exit))) ≡ true ⌝ }
-    ensures formed { λ a. ⌜ all-of (well-formed (layout (now (chart .entry)))) (held (now (slots .exit))) ≡ true ⌝ }
-    ensures counted { λ a. ⌜ now (count .exit) ≤ 256 ⌝ }
-    ensures few { λ a. ⌜ length (composed-members (layout (now (chart .entry))) (held (now (slots .exit)))) ≤ 256 ⌝ }
-    ensures just { λ a. ⌜ ((v : View) → among v (take (now (count .exit)) (now (table .exit))) ≡ among v (composed-members (layout (now (chart .entry))) (held (now (slots .exit))))) ⌝ }
+    ensures kept { λ a. ⌜ Kept (layout (now (chart .entry))) (now (slots .exit)) (now (table .exit)) (now (count .exit)) ⌝ }
     ensures answer { λ a. ⌜ a ≡ entry-answer (layout (now (chart .entry))) (composed-fits (layout (now (chart .entry)))) (held (now (slots .entry))) given ⌝ }
     ensures after { λ a. ⌜ Same (held (now (slots .exit))) (entry-list (layout (now (chart .entry))) (composed-fits (layout (now (chart .entry)))) (held (now (slots .entry))) given) ⌝ }
 {
@@ -96,13 +88,7 @@ pub(crate) fn take_rule(
     number: u16,
 ) -> Result<(), BookRefusal>
     requires { ⌜ Kept (layout (now chart)) (now slots) (now table) (now count) ⌝ }
-    ensures sized { λ a. ⌜ length (now (slots .exit)) ≡ 64 ⌝ }
-    ensures wide { λ a. ⌜ length (now (table .exit)) ≡ 256 ⌝ }
-    ensures distinct { λ a. ⌜ apart (held (now (slots .exit))) ≡ true ⌝ }
-    ensures formed { λ a. ⌜ all-of (well-formed (layout (now (chart .entry)))) (held (now (slots .exit))) ≡ true ⌝ }
-    ensures counted { λ a. ⌜ now (count .exit) ≤ 256 ⌝ }
-    ensures few { λ a. ⌜ length (composed-members (layout (now (chart .entry))) (held (now (slots .exit)))) ≤ 256 ⌝ }
-    ensures just { λ a. ⌜ ((v : View) → among v (take (now (count .exit)) (now (table .exit))) ≡ among v (composed-members (layout (now (chart .entry))) (held (now (slots .exit))))) ⌝ }
+    ensures kept { λ a. ⌜ Kept (layout (now (chart .entry))) (now (slots .exit)) (now (table .exit)) (now (count .exit)) ⌝ }
     ensures answer { λ a. ⌜ a ≡ withdrawal-answer (held (now (slots .entry))) number ⌝ }
     ensures after { λ a. ⌜ Same (held (now (slots .exit))) (withdrawal-list (held (now (slots .entry))) number) ⌝ }
 {

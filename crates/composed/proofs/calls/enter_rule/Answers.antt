@@ -13,13 +13,7 @@ returns-in-Ok c =
     let r = c .in-Ok .rule .given in
     let passed = c .in-Ok .ensures tt .answer in
     record {
-      sized = search needs;
-      wide = search needs;
-      distinct = c .put-rule .ensures .kept .distinct;
-      formed = c .put-rule .ensures .kept .formed;
-      counted = c .put-rule .ensures .kept .counted;
-      few = c .put-rule .ensures .kept .few;
-      just = c .put-rule .ensures .kept .just;
+      kept = c .put-rule .ensures .kept;
       answer = entry-is l (composed-fits l) rules (c .args .given) (c .put-rule .result) r passed (c .put-rule .ensures .answer);
       after = entry-after l (composed-fits l) rules (c .args .given) (c .put-rule .result) r (held (c .put-rule .last .slots)) passed (c .put-rule .ensures .answer) (c .put-rule .ensures .after);
     }
@@ -30,13 +24,7 @@ returns-in-Err c =
     let rules = held (now (c .args .slots)) in
     let e = c .in-Err .refusal in
     record {
-      sized = search needs;
-      wide = search needs;
-      distinct = c .pre .distinct;
-      formed = c .pre .formed;
-      counted = c .pre .counted;
-      few = c .pre .few;
-      just = c .pre .just;
+      kept = c .pre;
       answer = refusal-is l (composed-fits l) rules (c .args .given) e (c .in-Err .ensures tt .answer);
       after = refusal-after l (composed-fits l) rules (c .args .given) e (c .in-Err .ensures tt .answer);
     }

@@ -21,8 +21,6 @@ pub returns-then-holds-number : need.returns-then-holds-number
 returns-then-holds-number c =
     let rules = held (now (c .args .slots)) in
     record {
-      sized = search needs;
-      wide = search needs;
       kept = c .pre .kept;
       answer = place-taken (composed-fits (layout (now (c .args .chart)))) rules (c .args .rule .given) (sym (c .if-holds-number .ensures tt));
       after = same-refl rules;
@@ -34,8 +32,6 @@ returns-in-rest c =
     let rules = held (now (c .args .slots)) in
     let r = c .args .rule .given in
     record {
-      sized = search needs;
-      wide = search needs;
       kept = c .pre .kept;
       answer = place-unfit (composed-fits l) rules r (sym (c .if-holds-number .ensures tt)) (full-unfit l rules r (omega (arith, c .in-rest .ensures tt .finds, c .told-slots)));
       after = same-refl rules;
@@ -49,8 +45,6 @@ returns-in-rest-grow-slots c =
     let free = c .in-Some .ensures tt .finds in
     let filled = held-filled slots (c .in-Some .i) r (free .within) (free .empty) in
     record {
-      sized = search needs;
-      wide = search needs;
       kept = c .pre .kept;
       answer = place-unfit (composed-fits (layout ch)) (held slots) (r .given) (sym (c .if-holds-number .ensures tt))
           (more-unfit ch (held slots) (held (set slots (c .in-Some .i) (Some r))) (r .given) filled (c .in-rest-grow-slots .ensures tt));
@@ -71,9 +65,7 @@ returns c =
     let grown = c .in-Some-grow-slots .ensures tt in
     let after = set slots i (Some r) in
     record {
-      sized = search needs;
-      wide = search needs;
-      kept = kept-from l after (c .grow-slots .last .table) (c .in-Some-grow-slots .n)
+      kept = kept-from l after (c .grow-slots .last .table) (c .in-Some-grow-slots .n) (search needs) (search needs)
           (same-apart filled ∙ apart-more (held slots) (r .given) unused (c .pre .kept .distinct))
           (same-all (well-formed l) filled ∙ and-from (well-formed l (r .given)) (all-of (well-formed l) (held slots)) (c .pre .formed) (c .pre .kept .formed))
           grown;

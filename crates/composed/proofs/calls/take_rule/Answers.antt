@@ -27,13 +27,7 @@ pub returns-in-rest : need.returns-in-rest
 returns-in-rest c =
     let rules = held (now (c .args .slots)) in
     record {
-      sized = search needs;
-      wide = search needs;
-      distinct = c .pre .distinct;
-      formed = c .pre .formed;
-      counted = c .pre .counted;
-      few = c .pre .few;
-      just = c .pre .just;
+      kept = c .pre;
       answer = sym (ap (λ b. cond b (Ok tt) (Err NotInForce)) (c .in-rest .ensures tt .finds));
       after = subst (Same rules) (sym (absent rules (c .args .number) (c .in-rest .ensures tt .finds))) (same-refl rules);
     }
@@ -58,18 +52,12 @@ returns c =
     let after = set slots (c .in-Some .i) None in
     let gone : held after ≡ withdrawal-list (held slots) (c .args .number) =
     held-emptied slots (c .in-Some .i) (h .rule) (h .there) (c .pre .distinct) ∙ ap (withdrawal-list (held slots)) (h .named) in
-    let kept = kept-from l after (c .grow-slots .last .table) (c .in-Some-grow-slots .n)
+    let kept = kept-from l after (c .grow-slots .last .table) (c .in-Some-grow-slots .n) (search needs) (search needs)
     (ap apart gone ∙ apart-fewer other (held slots) (c .pre .distinct))
     (ap (all-of (well-formed l)) gone ∙ all-fewer (well-formed l) other (held slots) (c .pre .formed))
     (c .in-Some-grow-slots .ensures tt) in
     record {
-      sized = search needs;
-      wide = search needs;
-      distinct = kept .distinct;
-      formed = kept .formed;
-      counted = kept .counted;
-      few = kept .few;
-      just = kept .just;
+      kept = kept;
       answer = sym (ap (λ b. cond b (Ok tt) (Err NotInForce)) (holds-in-force slots (c .in-Some .i) (c .args .number) h));
       after = subst (λ (rs : List RuleRecord). Same rs (withdrawal-list (held slots) (c .args .number))) (sym gone) (same-refl (withdrawal-list (held slots) (c .args .number)));
     }
