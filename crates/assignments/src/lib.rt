@@ -1,4 +1,6 @@
 // Assignments of servers to the nodes of a query, what they release and cost, and the table of the cheapest safe ones.
+#![tactic(auto)]
+
 mod laws;
 mod mode;
 mod parts;

@@ -1,4 +1,6 @@
 // Books and lists of rules that are read exactly.
+#![tactic(auto)]
+
 mod exact;
 mod fault;
 mod make;

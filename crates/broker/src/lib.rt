@@ -1,4 +1,6 @@
 // The broker: rules are entered and withdrawn, and queries are judged by the rules that stand at that moment.
+#![tactic(auto)]
+
 mod broker;
 mod laws;
 mod run;

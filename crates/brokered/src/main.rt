@@ -1,4 +1,6 @@
 // A walk through the library on a small chart: three servers with a relation each, and two links.
+#![tactic(auto)]
+
 mod brokered;
 mod query;
 

@@ -1,4 +1,6 @@
 // The chart: which servers, relations, attributes, links and lines there are.
+#![tactic(auto)]
+
 mod build;
 mod laws;
 mod lookup;

@@ -1,4 +1,6 @@
 // Tests of charts, at the edges of every limit.
+#![tactic(auto)]
+
 #[cfg(test)]
 mod tests {
     use chart::{Chart, ChartRefusal, Grade};

@@ -1,4 +1,6 @@
 // A book that composes its rules, and a book of either kind.
+#![tactic(auto)]
+
 mod any;
 mod book;
 mod booked;

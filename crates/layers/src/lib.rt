@@ -1,4 +1,6 @@
 // Layers over any policy: denials, and a carrier.
+#![tactic(auto)]
+
 mod carrier;
 mod denial;
 mod denials;

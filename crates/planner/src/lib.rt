@@ -1,4 +1,6 @@
 // The planner: plans a query over any policy and at any tariff.
+#![tactic(auto)]
+
 mod answer;
 mod laws;
 mod list;

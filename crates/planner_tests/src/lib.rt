@@ -1,4 +1,6 @@
 // Tests of queries, at the edges of their questions and on small charts.
+#![tactic(auto)]
+
 #[cfg(test)]
 mod tests {
     use assignments::{Mode, Place, Release, Step};

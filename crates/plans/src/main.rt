@@ -1,4 +1,6 @@
 // Plans small queries on the sample chart over sealed lists of rules, with and without layers, in bytes and by grade.
+#![tactic(auto)]
+
 mod cases;
 mod prices;
 

@@ -1,4 +1,6 @@
 // Policies and books: who may see what, by the rules in force.
+#![tactic(auto)]
+
 mod reading;
 mod refusal;
 mod traits;

@@ -1,4 +1,6 @@
 // Tests of rules, books, lists and layers, at their edges.
+#![tactic(auto)]
+
 #[cfg(test)]
 mod tests {
     use books::{ExactBook, SealedList};

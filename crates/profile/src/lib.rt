@@ -1,4 +1,6 @@
 // Profiles: what a result tells whoever sees it.
+#![tactic(auto)]
+
 mod join;
 mod laws;
 mod shape;

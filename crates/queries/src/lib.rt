@@ -1,4 +1,6 @@
 // Query trees: their nodes, and the questions that they have to pass.
+#![tactic(auto)]
+
 mod check;
 mod node;
 mod refusal;

@@ -1,4 +1,6 @@
 // Rules on who may see what, and the questions that a rule has to pass.
+#![tactic(auto)]
+
 mod check;
 mod laws;
 mod refusal;

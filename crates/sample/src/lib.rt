@@ -1,4 +1,6 @@
 // What the example programs share: the sample chart, rule records, and the text of sets and profiles.
+#![tactic(auto)]
+
 mod build;
 mod record;
 mod text;

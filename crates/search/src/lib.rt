@@ -1,4 +1,6 @@
 // The search: fills the work table with the cheapest safe ways to have each node of a query at each server.
+#![tactic(auto)]
+
 mod fill;
 mod options;
 mod root;

@@ -1,4 +1,6 @@
 // Sets of numbers below 64: the attributes, links or relations of a chart.
+#![tactic(auto)]
+
 mod elements;
 mod laws;
 mod small_set;

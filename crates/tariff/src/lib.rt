@@ -1,4 +1,6 @@
 // Tariffs: what releases cost, in bytes or by the grade of the line.
+#![tactic(auto)]
+
 mod bytes;
 mod grades;
 mod traits;
