@@ -4,4 +4,4 @@ use Rattle.books.proofs.Held.{granted_records}
 use Rattle.books.proofs.sealed.records_allow.Goals as goal
 
 pub returns : goal.returns
-returns c = c.some-view-allows.ensures ∙ ap (λ vs. exact vs c.args.server c.args.profile.now) (granted_records c.args.records.now)
+returns c = c.some_view_allows.ensures ∙ ap (λ vs. exact vs c.args.server c.args.profile.now) (granted_records c.args.records.now)

@@ -10,10 +10,10 @@ returns-in-Ok c =
     let r = c.in-Ok.rule.given in
     let passed = c.in-Ok.ensures.answer in
     record {
-      answer = entry_is l exact_fits rules c.args.given c.put-rule.result r passed c.put-rule.ensures.answer;
-      after = entry_after l exact_fits rules c.args.given c.put-rule.result r (held c.put-rule.new.slots) passed c.put-rule.ensures.answer c.put-rule.ensures.after;
-      distinct = c.put-rule.ensures.distinct c.requires.distinct;
-      formed = c.put-rule.ensures.formed l c.requires.formed c.in-Ok.ensures.passed;
+      answer = entry_is l exact_fits rules c.args.given c.put_rule.result r passed c.put_rule.ensures.answer;
+      after = entry_after l exact_fits rules c.args.given c.put_rule.result r (held c.put_rule.new.slots) passed c.put_rule.ensures.answer c.put_rule.ensures.after;
+      distinct = c.put_rule.ensures.distinct c.requires.distinct;
+      formed = c.put_rule.ensures.formed l c.requires.formed c.in-Ok.ensures.passed;
     }
 
 pub returns-in-Err : goal.returns-in-Err

@@ -6,14 +6,14 @@ use Rattle.books.proofs.slots.first_free.Goals as goal
 pub loop-i-init : goal.loop-i-init
 loop-i-init c = (place_start (place_of is_free c.args.slots.now), omega arith)
 
-pub returns-then-is-empty : goal.returns-then-is-empty
-returns-then-is-empty c =
+pub returns-then-is_empty : goal.returns-then-is_empty
+returns-then-is_empty c =
     let slots = c.args.slots.now in
     let i = c.loop-i.i in
     let x = c.index-slots-i.result in
     record {
-      value = sym (place_found is_free slots i x c.loop-i-test.true c.index-slots-i.is (ap not c.if-is-empty.ensures)) ∙ c.loop-i.invariant.0;
-      finds = found_free slots i x c.loop-i-test.true c.index-slots-i.is c.if-is-empty.ensures;
+      value = sym (place_found is_free slots i x c.loop-i-test.true c.index-slots-i.is (ap not c.if-is_empty.ensures)) ∙ c.loop-i.invariant.0;
+      finds = found_free slots i x c.loop-i-test.true c.index-slots-i.is c.if-is_empty.ensures;
     }
 
 pub loop-i-preserved : goal.loop-i-preserved
@@ -21,8 +21,8 @@ loop-i-preserved c =
     let slots = c.args.slots.now in
     let i = c.loop-i.i in
     let x = c.index-slots-i.result in
-    let more = passed_taken slots i x c.loop-i-test.true c.index-slots-i.is c.if-is-empty.ensures in
-    (place_on is_free slots i x c.loop-i-test.true c.index-slots-i.is (ap not c.if-is-empty.ensures) ∙ c.loop-i.invariant.0, omega (arith, c.loop-i.invariant.1))
+    let more = passed_taken slots i x c.loop-i-test.true c.index-slots-i.is c.if-is_empty.ensures in
+    (place_on is_free slots i x c.loop-i-test.true c.index-slots-i.is (ap not c.if-is_empty.ensures) ∙ c.loop-i.invariant.0, omega (arith, c.loop-i.invariant.1))
 
 pub returns : goal.returns
 returns c =

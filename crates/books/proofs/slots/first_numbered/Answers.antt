@@ -7,12 +7,12 @@ use Rattle.books.proofs.slots.first_numbered.Goals as goal
 pub loop-i-init : goal.loop-i-init
 loop-i-init c = (place_start (place_of (numbered c.args.number) c.args.slots.now), refl)
 
-pub returns-then-has-number : goal.returns-then-has-number
-returns-then-has-number c =
+pub returns-then-has_number : goal.returns-then-has_number
+returns-then-has_number c =
     let slots = c.args.slots.now in
     let i = c.loop-i.i in
     let x = c.index-slots-i.result in
-    let h = sym c.if-has-number.ensures in
+    let h = sym c.if-has_number.ensures in
     let found = found_number slots i x c.loop-i-test.true c.index-slots-i.is c.args.number h in
     record {
       value = sym (place_found (numbered c.args.number) slots i x c.loop-i-test.true c.index-slots-i.is h) ∙ c.loop-i.invariant.0;
@@ -25,7 +25,7 @@ loop-i-preserved c =
     let slots = c.args.slots.now in
     let i = c.loop-i.i in
     let x = c.index-slots-i.result in
-    let h = sym c.if-has-number.ensures in (
+    let h = sym c.if-has_number.ensures in (
       place_on (numbered c.args.number) slots i x c.loop-i-test.true c.index-slots-i.is h ∙ c.loop-i.invariant.0,
       passed_number slots i x c.loop-i-test.true c.index-slots-i.is c.args.number h ∙ c.loop-i.invariant.1,
     )

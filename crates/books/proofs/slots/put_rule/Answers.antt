@@ -9,11 +9,11 @@ use Rattle.policy.proofs.Orders.{same_refl, same_sym, same_all, same_apart}
 use Rattle.books.proofs.Held.{place_taken, place_unfit, place_fit, apart_more, held_filled, held_fewer}
 use Rattle.books.proofs.slots.put_rule.Goals as goal
 
-pub returns-then-holds-number : goal.returns-then-holds-number
-returns-then-holds-number c =
+pub returns-then-holds_number : goal.returns-then-holds_number
+returns-then-holds_number c =
     let rules = held c.args.slots.now in
     record {
-      answer = place_taken exact_fits rules c.args.rule.given (sym c.if-holds-number.ensures);
+      answer = place_taken exact_fits rules c.args.rule.given (sym c.if-holds_number.ensures);
       after = same_refl rules;
       distinct = λ h. h;
       formed = λ l h k. h;
@@ -24,7 +24,7 @@ returns-in-default c =
     let rules = held c.args.slots.now in
     let full : 64 < length (c.args.rule.given ∷ rules) = omega (arith, c.in-default.ensures.finds, c.requires) in
     record {
-      answer = place_unfit exact_fits rules c.args.rule.given (sym c.if-holds-number.ensures) (lt-leb (length (c.args.rule.given ∷ rules)) 64 full);
+      answer = place_unfit exact_fits rules c.args.rule.given (sym c.if-holds_number.ensures) (lt-leb (length (c.args.rule.given ∷ rules)) 64 full);
       after = same_refl rules;
       distinct = λ h. h;
       formed = λ l h k. h;
@@ -35,7 +35,7 @@ returns c =
     let slots = c.args.slots.now in
     let r = c.args.rule in
     let free = c.in-Some.ensures.finds in
-    let unused = sym c.if-holds-number.ensures in
+    let unused = sym c.if-holds_number.ensures in
     let fewer = held_fewer slots c.in-Some.i free.within free.empty in
     let filled = held_filled slots c.in-Some.i r free.within free.empty in
     record {

@@ -25,7 +25,7 @@ returns c =
     let slots = c.args.slots.now in
     let other : RuleRecord → Bool = λ r. not (eqb r.number c.args.number) in
     let h = c.in-Some.ensures.finds in
-    let gone = ap held c.empty-slot.ensures ∙ held_emptied slots c.in-Some.i h.rule h.there c.requires ∙ ap (withdrawal_list (held slots)) h.named in
+    let gone = ap held c.empty_slot.ensures ∙ held_emptied slots c.in-Some.i h.rule h.there c.requires ∙ ap (withdrawal_list (held slots)) h.named in
     record {
       answer = sym (ap (λ b. cond b (Ok tt) (Err NotInForce)) (holds_in_force slots c.in-Some.i c.args.number h));
       after = subst (λ (rs : List RuleRecord). Same rs (withdrawal_list (held slots) c.args.number)) (sym gone) (same_refl (withdrawal_list (held slots) c.args.number));

@@ -9,13 +9,13 @@ use Rattle.chart.proofs.Extended.{server_told, widths_told, relations_told, attr
 use Rattle.chart.proofs.build.put_relation.Goals as goal
 
 -- the attributes after the call
-written : (c : goal.After-write-columns)
-    → let ch = c.args.chart.now in take (ch.attribute_count + length c.args.widths.now) c.write-columns.new.attributes
+written : (c : goal.After-write_columns)
+    → let ch = c.args.chart.now in take (ch.attribute_count + length c.args.widths.now) c.write_columns.new.attributes
     ≡ take ch.attribute_count ch.attributes ++ columns ch.relation_count c.args.widths.now
-written c = c.write-columns.ensures
+written c = c.write_columns.ensures
 
-pub invariant-of-chart : goal.invariant-of-chart
-invariant-of-chart c =
+pub invariant_of-chart : goal.invariant_of-chart
+invariant_of-chart c =
     let ch = c.args.chart.now in
     let server = c.args.server in
     let ws = c.args.widths.now in
@@ -26,26 +26,17 @@ invariant-of-chart c =
     let widths = widths_told (layout ch) server ws (length (layout ch).homes) c.requires in
     let known = server_told (layout ch) server ws (length (layout ch).homes) c.requires in
     let counted = relations_length ch in
-    let columned = attributes_length ch in (
-      (length-set ch.homes n server ∙ ch.sized.0, c.write-columns.auto.attributes ∙ ch.sized.1, ch.sized.2, ch.sized.3),
-      (
-        (omega arith, omega arith, ch.counted.2),
-        (
-          ch.manned,
-          (
-            front_more (λ s. ltb s ch.servers) ch.homes n server (omega (arith, ch.sized.0)) ch.homed known,
-            (
-              ap (all_of (proper (n + 1))) (written c) ∙ owned_more n old ws ch.owned widths,
-              (
-                ap (λ xs. all_of (λ x. crosses xs x.left x.right) (take ch.link_count ch.links)) (written c)
-                    ∙ crossed_more old (columns n ws) (take ch.link_count ch.links) ch.crossed,
-                tt,
-              ),
-            ),
-          ),
-        ),
-      ),
-    )
+    let columned = attributes_length ch in
+    record {
+      sized = (length-set ch.homes n server ∙ ch.sized.0, c.write_columns.auto.attributes ∙ ch.sized.1, ch.sized.2, ch.sized.3);
+      counted = (omega arith, omega arith, ch.counted.2);
+      manned = ch.manned;
+      homed = front_more (λ s. ltb s ch.servers) ch.homes n server (omega (arith, ch.sized.0)) ch.homed known;
+      owned = ap (all_of (proper (n + 1))) (written c) ∙ owned_more n old ws ch.owned widths;
+      crossed =
+          ap (λ xs. all_of (λ x. crosses xs x.left x.right) (take ch.link_count ch.links)) (written c)
+          ∙ crossed_more old (columns n ws) (take ch.link_count ch.links) ch.crossed;
+    }
 
 pub returns : goal.returns
 returns c =
@@ -55,7 +46,7 @@ returns c =
     let old = take ch.attribute_count ch.attributes in
     let relations = relations_told (layout ch) c.args.server ws (length (layout ch).homes) c.requires in
     let counted = relations_length ch in
-    let new : take (ch.attribute_count + length ws) c.write-columns.new.attributes ≡ old ++ columns n ws = c.write-columns.ensures in
+    let new : take (ch.attribute_count + length ws) c.write_columns.new.attributes ≡ old ++ columns n ws = c.write_columns.ensures in
     same_layout ch.servers ch.grades
     (take_more_set ch.homes n c.args.server (omega (arith, ch.sized.0)))
     (new ∙ ap (λ k. old ++ columns k ws) (sym counted))

@@ -7,5 +7,5 @@ use Rattle.chart.proofs.lookup.grade_at.Goals as goal
 pub returns : goal.returns
 returns c =
     let xs = c.args.grades.now in
-    let i = c.place-of-line.result in
-    get_or_default xs i Quay Public (omega (arith, c.place-of-line.ensures.bound)) ∙ ap (λ k. get_or xs k Public) c.place-of-line.ensures.value
+    let i = c.place_of_line.result in
+    get_or_default xs i Quay Public (omega (arith, c.place_of_line.ensures.bound)) ∙ ap (λ k. get_or xs k Public) c.place_of_line.ensures.value

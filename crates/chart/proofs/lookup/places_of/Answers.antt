@@ -15,7 +15,7 @@ loop-i-preserved c =
     let x : Attribute = get_or xs i (record { relation = 0; width = 0 }) in
     elim c.if-attribute-relation.branch [
       | then-attribute-relation w ↦
-          ap (λ s. union s (places test (i + 1) (drop (i + 1) xs))) (w.found-is ∙ w.with-place-found.ensures)
+          ap (λ s. union s (places test (i + 1) (drop (i + 1) xs))) (w.found-is ∙ w.with_place-found.ensures)
           ∙ places_took test xs i (record { relation = 0; width = 0 }) c.loop-i-test.true c.loop-i.found (eq-eqb x.relation c.args.relation w.if-attribute-relation.true)
           ∙ c.loop-i.invariant
       | else-attribute-relation w ↦

@@ -4,8 +4,8 @@ use Rattle.members.specs.Members.{among, members}
 use Rattle.composed.specs.Books.{members_none}
 use Rattle.composed.proofs.book.empty_book.Goals as goal
 
-pub invariant-of-result : goal.invariant-of-result
-invariant-of-result c =
+pub invariant_of-result : goal.invariant_of-result
+invariant_of-result c =
     let l = layout c.args.chart in
     let none = members_none l in
     let few : length (members l []) ≤ 256 = omega (arith, ap length none) in

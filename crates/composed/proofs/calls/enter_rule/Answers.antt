@@ -12,9 +12,9 @@ returns-in-Ok c =
     let r = c.in-Ok.rule.given in
     let passed = c.in-Ok.ensures.answer in
     record {
-      kept = c.put-rule.ensures.kept;
-      answer = entry_is l (composed_fits l) rules c.args.given c.put-rule.result r passed c.put-rule.ensures.answer;
-      after = entry_after l (composed_fits l) rules c.args.given c.put-rule.result r (held c.put-rule.new.slots) passed c.put-rule.ensures.answer c.put-rule.ensures.after;
+      kept = c.put_rule.ensures.kept;
+      answer = entry_is l (composed_fits l) rules c.args.given c.put_rule.result r passed c.put_rule.ensures.answer;
+      after = entry_after l (composed_fits l) rules c.args.given c.put_rule.result r (held c.put_rule.new.slots) passed c.put_rule.ensures.answer c.put_rule.ensures.after;
     }
 
 pub returns-in-Err : goal.returns-in-Err

@@ -13,8 +13,8 @@ returns c = λ l rules just.
     let table = c.args.table.now in
     let server = c.args.server in
     let p = c.args.profile.now in
-    let r : Bool = c.some-view-allows.result in
-    let asked : r ≡ exact (flat_map (λ (v : View). v ∷ []) (take (n - 0) table)) server p = c.some-view-allows.ensures in
+    let r : Bool = c.some_view_allows.result in
+    let asked : r ≡ exact (flat_map (λ (v : View). v ∷ []) (take (n - 0) table)) server p = c.some_view_allows.ensures in
     let whole : n - 0 ≡ n = omega arith in
     let read : r ≡ exact (take n table) server p =
     asked ∙ ap (λ vs. exact vs server p) (views_alone (take (n - 0) table)) ∙ ap (λ k. exact (take k table) server p) whole in

@@ -31,7 +31,7 @@ unreachable-requires c =
     held_emptied slots c.in-Some.i h.rule h.there c.requires.distinct ∙ ap (withdrawal_list (held slots)) h.named in
     let few = fewer_few ch (held slots) c.args.number c.requires.few in
     let same = ap (λ rules. length (composed_members (layout ch) rules)) gone in
-    omega (arith, c.in-default-grow-slots.ensures, same)
+    omega (arith, c.in-default-grow_slots.ensures, same)
 
 pub returns : goal.returns
 returns c =
@@ -42,13 +42,13 @@ returns c =
     let after = set slots c.in-Some.i None in
     let gone : held after ≡ withdrawal_list (held slots) c.args.number =
     held_emptied slots c.in-Some.i h.rule h.there c.requires.distinct ∙ ap (withdrawal_list (held slots)) h.named in
-    let kept = kept_from l after c.grow-slots.new.table c.in-Some-grow-slots.n (search rules) (search rules)
+    let kept = kept_from l after c.grow_slots.new.table c.in-Some-grow_slots.n (search rules) (search rules)
     (ap apart gone ∙ apart_fewer other (held slots) c.requires.distinct)
     (ap (all_of (well_formed l)) gone ∙ all_fewer (well_formed l) other (held slots) c.requires.formed)
-    c.in-Some-grow-slots.ensures in
+    c.in-Some-grow_slots.ensures in
     let put = c.store.ensures in
     record {
-      kept = kept_stored l c.store.new.slots after c.store.new.table c.grow-slots.new.table c.store.new.count c.in-Some-grow-slots.n put.slots put.table put.count kept;
+      kept = kept_stored l c.store.new.slots after c.store.new.table c.grow_slots.new.table c.store.new.count c.in-Some-grow_slots.n put.slots put.table put.count kept;
       answer = sym (ap (λ b. cond b (Ok tt) (Err NotInForce)) (holds_in_force slots c.in-Some.i c.args.number h));
       after = subst (λ (rs : List RuleRecord). Same rs (withdrawal_list (held slots) c.args.number)) (sym (ap held put.slots ∙ gone)) (same_refl (withdrawal_list (held slots) c.args.number));
     }

@@ -10,6 +10,6 @@ unfolding share_none
 returns c =
     let l = layout c.args.chart.now in
     let b = c.args.b in
-    c.is-disjoint.ensures
+    c.is_disjoint.ensures
     ∙ ap (λ s. disjoint s c.relations-2.result) c.relations.ensures
     ∙ ap (disjoint (touched l c.args.a.attributes c.args.a.path)) c.relations-2.ensures

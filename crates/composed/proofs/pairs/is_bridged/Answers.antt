@@ -5,7 +5,7 @@ use Rattle.composed.proofs.pairs.is_bridged.Goals as goal
 pub returns-in-Some : goal.returns-in-Some
 unfolding bridges
 returns-in-Some c =
-    c.lie-across.ensures ∙ ap (λ o. lies_across o c.args.a.attributes c.args.b.attributes) c.in-Some.ensures.value
+    c.lie_across.ensures ∙ ap (λ o. lies_across o c.args.a.attributes c.args.b.attributes) c.in-Some.ensures.value
 
 pub returns-in-None : goal.returns-in-None
 unfolding bridges

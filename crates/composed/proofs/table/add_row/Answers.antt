@@ -20,5 +20,5 @@ loop-j-preserved c =
     let h = c.in-Some.ensures in (
       h.0,
       row_more (compositions (layout c.args.chart.now) (get_or T c.args.i no_view)) T c.loop-j.table c.args.n c.loop-j.n c.args.i c.loop-j.j no_view
-          (omega arith) (omega arith) (omega arith) c.loop-j-test.true c.loop-j.invariant.1 (take c.in-Some.m c.add-pair.new.table) h.1,
+          (omega arith) (omega arith) (omega arith) c.loop-j-test.true c.loop-j.invariant.1 (take c.in-Some.m c.add_pair.new.table) h.1,
     )

@@ -9,18 +9,18 @@ use Rattle.layers.proofs.denials.some_denial_hits.Goals as goal
 abbrev nothing : Denial
 nothing = record { server = 0; attributes = none }
 
-pub returns-then-denial-hits : goal.returns-then-denial-hits
-returns-then-denial-hits c =
+pub returns-then-denial_hits : goal.returns-then-denial_hits
+returns-then-denial_hits c =
     let ds = c.args.denials.now in
     let server = c.args.server in
     let p = c.args.profile.now in
-    let e = hit_at ds server p c.loop-denial.denial-index c.loop-denial.invariant nothing c.loop-denial-test.true c.if-denial-hits.ensures in
+    let e = hit_at ds server p c.loop-denial.denial-index c.loop-denial.invariant nothing c.loop-denial-test.true c.if-denial_hits.ensures in
     record { value = e; means = Decides-at true (denied ds server p) e (denied_means ds server p) }
 
 pub loop-denial-preserved : goal.loop-denial-preserved
 loop-denial-preserved c =
     missed_at c.args.denials.now c.args.server c.args.profile.now c.loop-denial.denial-index c.loop-denial.invariant
-    nothing c.loop-denial-test.true c.if-denial-hits.ensures
+    nothing c.loop-denial-test.true c.if-denial_hits.ensures
 
 pub returns : goal.returns
 returns c =

@@ -7,8 +7,8 @@ use Rattle.planner.proofs.list.list_releases.Goals as goal
 pub loop-i-init : goal.loop-i-init
 loop-i-init c = listed_none (layout c.args.chart.now) c.args.nodes.now (at_step c.args.plan.now) c.args.out.now
 
-pub list-node-at-requires : goal.list-node-at-requires
-list-node-at-requires c =
+pub list_node-at-requires : goal.list_node-at-requires
+list_node-at-requires c =
     let space = room (layout c.args.chart.now) c.args.nodes.now c.requires.sound (at_step c.args.plan.now) c.loop-i.i (omega arith) in
     record {
       sound = c.requires.sound;
@@ -19,8 +19,8 @@ list-node-at-requires c =
 
 pub loop-i-preserved : goal.loop-i-preserved
 loop-i-preserved c =
-    listed_more (layout c.args.chart.now) c.args.nodes.now (at_step c.args.plan.now) c.requires.sound c.loop-i.i c.loop-i.at c.list-node-at.result c.args.out.now c.loop-i.out c.list-node-at.new.out
-    (omega arith) (omega arith) c.loop-i.invariant c.list-node-at.ensures.next c.list-node-at.ensures.wrote
+    listed_more (layout c.args.chart.now) c.args.nodes.now (at_step c.args.plan.now) c.requires.sound c.loop-i.i c.loop-i.at c.list_node-at.result c.args.out.now c.loop-i.out c.list_node-at.new.out
+    (omega arith) (omega arith) c.loop-i.invariant c.list_node-at.ensures.next c.list_node-at.ensures.wrote
 
 pub returns : goal.returns
 returns c =

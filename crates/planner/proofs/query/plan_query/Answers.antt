@@ -18,13 +18,13 @@ pub returns-then-plan-nodes : goal.returns-then-plan-nodes
 returns-then-plan-nodes g c =
     let l = layout (g.P.Policy.charted c.args.policy.now) in
     let nodes = c.args.nodes.now in
-    let fit : count_fits nodes ≡ true = sym c.has-fit-count.ensures ∙ c.if-not-has-fit-count.false in
+    let fit : count_fits nodes ≡ true = sym c.has_fit_count.ensures ∙ c.if-not-has_fit_count.false in
     let r = refused_by (pricing_of g.T.Tariff.free g.T.Tariff.sum g.T.Tariff.leq g.T.Tariff.release c.args.tariff.now) (g.P.Policy.reading c.args.policy.now (g.P.Policy.rules c.args.policy.now)) l nodes c.args.work.now c.args.plan.now c.args.releases.now Room
     (no_room l nodes (length c.args.work.now) (length c.args.plan.now) (length c.args.releases.now) fit c.then-plan-nodes.either) in
     record { answer = r.answer; work = r.same_work; plan = r.same_plan; releases = r.same_releases; judged = tt }
 
-pub answer-found-requires : goal.answer-found-requires
-answer-found-requires g c =
+pub answer_found-requires : goal.answer_found-requires
+answer_found-requires g c =
     let nodes = c.args.nodes.now in
     let h = c.in-Ok.ensures.found in
     let e = sym c.chart.ensures in
@@ -45,25 +45,25 @@ returns-in-Ok g c =
     let work = c.args.work.now in
     let plan = c.args.plan.now in
     let releases = c.args.releases.now in
-    let new = c.search-tree.new.work in
+    let new = c.search_tree.new.work in
     let h = c.in-Ok.ensures in
     let o = c.in-Ok.found.outcome in
-    let fit : count_fits nodes ≡ true = sym c.has-fit-count.ensures ∙ c.if-not-has-fit-count.false in
+    let fit : count_fits nodes ≡ true = sym c.has_fit_count.ensures ∙ c.if-not-has_fit_count.false in
     let yes' = accepted_by pricing may l nodes work plan releases
     (as_searched l nodes (length work) (length plan) (length releases) fit c.if-plan-nodes.false c.if-releases-nodes.false ∙ sym h.answer) in
     let wrote = subst
     (λ (v : Chart). Filled pricing may (layout v) nodes (length nodes) work new → o ≡ outcome_of pricing may (layout v) nodes
-    → AnsweredBy pricing may (layout v) nodes o plan c.answer-found.new.plan releases c.answer-found.new.releases c.answer-found.result)
-    c.chart.ensures (c.answer-found.ensures.wrote pricing may work) h.table h.found.outcome in
+    → AnsweredBy pricing may (layout v) nodes o plan c.answer_found.new.plan releases c.answer_found.new.releases c.answer_found.result)
+    c.chart.ensures (c.answer_found.ensures.wrote pricing may work) h.table h.found.outcome in
     let answer = wrote.answer ∙ ap (answer_by pricing may l nodes) h.found.outcome in
     let planned = wrote.plan ∙ ap (λ (x : Outcome g.row.T-Price.Denot). plan_by pricing may l nodes x plan) h.found.outcome in
     let listed = wrote.releases ∙ ap (λ (x : Outcome g.row.T-Price.Denot). releases_by pricing may l nodes x releases) h.found.outcome in
     let charted = chart_sound (g.P.Policy.charted c.args.policy.now) in
     record {
       answer = answer ∙ yes'.answer;
-      work = c.answer-found.ensures.work ∙ table_is pricing may l nodes work new charted.some_server h.table ∙ yes'.filled;
+      work = c.answer_found.ensures.work ∙ table_is pricing may l nodes work new charted.some_server h.table ∙ yes'.filled;
       plan = planned ∙ yes'.planned;
       releases = listed ∙ yes'.listed;
       judged = judged_by pricing may l nodes work plan releases (record { total = m.total t; transitive = m.transitive t; left = m.left t; right = m.right t }) charted h.found.sound new h.table c.if-plan-nodes.false
-          _ _ _ _ c.answer-found.ensures.work planned listed answer;
+          _ _ _ _ c.answer_found.ensures.work planned listed answer;
     }

@@ -8,8 +8,8 @@ use Rattle.planner.specs.Queries.{assigned}
 use Rattle.planner.proofs.Buffers.{released_is}
 use Rattle.planner.proofs.query.write_out.Goals as goal
 
-pub write-plan-requires : goal.write-plan-requires
-write-plan-requires g c = record { sizes = (c.requires.sound.some, c.requires.sizes.1, c.requires.sound.few); earlier = c.requires.sound.earlier }
+pub write_plan-requires : goal.write_plan-requires
+write_plan-requires g c = record { sizes = (c.requires.sound.some, c.requires.sizes.1, c.requires.sound.few); earlier = c.requires.sound.earlier }
 
 pub returns : goal.returns
 returns g c = record {
@@ -18,11 +18,11 @@ returns g c = record {
       let l = layout c.args.chart.now in
       let nodes = c.args.nodes.now in
       let seat = c.args.seat in
-      let wrote = c.write-plan.ensures l d may old p (chart_sound c.args.chart.now) c.requires.sound c.servers-servers.ensures filled held below in
-      let same = released_is l nodes (assigned d may l nodes seat.server) c.args.plan.now c.write-plan.new.plan c.requires.sound.earlier c.requires.sizes.1 wrote in
+      let wrote = c.write_plan.ensures l d may old p (chart_sound c.args.chart.now) c.requires.sound c.servers-servers.ensures filled held below in
+      let same = released_is l nodes (assigned d may l nodes seat.server) c.args.plan.now c.write_plan.new.plan c.requires.sound.earlier c.requires.sizes.1 wrote in
       record {
-        answer = ap (λ (k : ℕ). record { executor = seat.server; price = seat.price; releases = k }) (c.list-releases-count.ensures.count ∙ ap length same);
+        answer = ap (λ (k : ℕ). record { executor = seat.server; price = seat.price; releases = k }) (c.list_releases-count.ensures.count ∙ ap length same);
         plan = wrote;
-        releases = c.list-releases-count.ensures.wrote ∙ ap (λ (rs : List Release). releases_after rs c.args.releases.now) same;
+        releases = c.list_releases-count.ensures.wrote ∙ ap (λ (rs : List Release). releases_after rs c.args.releases.now) same;
       };
 }

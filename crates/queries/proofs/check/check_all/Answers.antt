@@ -15,10 +15,10 @@ returns-in-Ok c =
     let few : length nodes ≤ 63 = leb-true (length nodes) 63 (and_parts (leb 1 (length nodes)) (leb (length nodes) 63) c.requires.1).1 in
     record {
       answer =
-          c.check-used.ensures
+          c.check_used.ensures
           ∙ ap answered (uses_same (has c.in-Ok.used) (used_by nodes (length nodes)) (length nodes - 1) 0 (λ k b. h.used k (omega arith)))
           ∙ sym (passed_on tt tt (questions_from l nodes 0 (length nodes)) (uses_from (used_by nodes (length nodes)) 0 (length nodes - 1)) tt (sym h.answer));
-      profiles = made_anyway c.check-used.result h.profiles;
+      profiles = made_anyway c.check_used.result h.profiles;
     }
 
 pub returns-in-Err : goal.returns-in-Err

@@ -28,8 +28,8 @@ loop-i-preserved c =
     let below = c.loop-i-test.true in
     let p = c.in-ok-profile.profile in (
       passed_at l sound nodes i few (has c.loop-i.seen.used) (has c.loop-i.seen.relations) f inv.1 inv.2 inv.3 below inv.0 p h,
-      λ j k. c.with-node-seen.ensures.used j k ∙ ap (λ (b : Bool). b || uses j (node nodes i)) (inv.1 j k) ∙ sym (used_more nodes i j below),
-      λ r k. c.with-node-seen.ensures.relations r k ∙ ap (λ (b : Bool). b || is_leaf r (node nodes i)) (inv.2 r k) ∙ sym (stands_more nodes i r below),
+      λ j k. c.with_node-seen.ensures.used j k ∙ ap (λ (b : Bool). b || uses j (node nodes i)) (inv.1 j k) ∙ sym (used_more nodes i j below),
+      λ r k. c.with_node-seen.ensures.relations r k ∙ ap (λ (b : Bool). b || is_leaf r (node nodes i)) (inv.2 r k) ∙ sym (stands_more nodes i r below),
       written_more (node_profile l nodes) c.loop-i.profiles i p (omega arith) inv.3 (profile_at l sound nodes i few (has c.loop-i.seen.used) (has c.loop-i.seen.relations) f inv.1 inv.2 inv.3 below inv.0 p h),
     )
 

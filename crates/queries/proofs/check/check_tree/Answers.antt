@@ -11,5 +11,5 @@ returns-in-Ok c =
     let l = layout c.args.chart.now in
     let nodes = c.args.nodes.now in
     let h = c.in-Ok.ensures in
-    let a : Ok tt ≡ tree_answer l nodes = h.answer ∙ sym (cond-true (count_fits nodes) (answered (tree_questions l nodes)) (Err Count) (sym c.has-fit-count.ensures ∙ c.if-not-has-fit-count.false)) in
+    let a : Ok tt ≡ tree_answer l nodes = h.answer ∙ sym (cond-true (count_fits nodes) (answered (tree_questions l nodes)) (Err Count) (sym c.has_fit_count.ensures ∙ c.if-not-has_fit_count.false)) in
     record { answer = a; sized = search rules; profiles = h.profiles; sound = sound_tree l nodes (sym a) }

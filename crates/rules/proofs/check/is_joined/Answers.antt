@@ -2,10 +2,10 @@ use Rattle.std.proofs.Common.{rules}
 use Rattle.rules.specs.Rules.{path_joins}
 use Rattle.rules.proofs.check.is_joined.Goals as goal
 
-pub returns-then-knows-links : goal.returns-then-knows-links
+pub returns-then-knows_links : goal.returns-then-knows_links
 unfolding path_joins
-returns-then-knows-links c = search rules
+returns-then-knows_links c = search rules
 
-pub returns-else-knows-links : goal.returns-else-knows-links
+pub returns-else-knows_links : goal.returns-else-knows_links
 unfolding path_joins
-returns-else-knows-links c = search rules
+returns-else-knows_links c = search rules

@@ -12,7 +12,7 @@ loop-a-preserved c =
     let i = c.loop-a.a in
     gather_turn (λ (a : ℕ). set_of (relation_of (layout c.args.chart.now) a)) c.args.attributes i c.loop-a.found c.if-contains.found c.loop-a-test.true
     (elim c.if-contains.branch [
-      | then-contains w ↦ inl (sym c.contains.ensures ∙ w.if-contains.true, w.found-is ∙ w.union-found.ensures ∙ ap (union c.loop-a.found) w.relation-set.ensures)
+      | then-contains w ↦ inl (sym c.contains.ensures ∙ w.if-contains.true, w.found-is ∙ w.union-found.ensures ∙ ap (union c.loop-a.found) w.relation_set.ensures)
       | else-contains w ↦ inr (sym c.contains.ensures ∙ w.if-contains.false, w.found-is)
     ])
     ∙ c.loop-a.invariant

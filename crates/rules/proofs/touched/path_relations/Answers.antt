@@ -11,7 +11,7 @@ loop-k-preserved c =
     let i = c.loop-k.k in
     gather_turn (link_relations (layout c.args.chart.now)) c.args.path i c.loop-k.found c.if-contains.found c.loop-k-test.true
     (elim c.if-contains.branch [
-      | then-contains w ↦ inl (sym c.contains.ensures ∙ w.if-contains.true, w.found-is ∙ w.union-found.ensures ∙ ap (union c.loop-k.found) w.relations-of-link.ensures)
+      | then-contains w ↦ inl (sym c.contains.ensures ∙ w.if-contains.true, w.found-is ∙ w.union-found.ensures ∙ ap (union c.loop-k.found) w.relations_of_link.ensures)
       | else-contains w ↦ inr (sym c.contains.ensures ∙ w.if-contains.false, w.found-is)
     ])
     ∙ c.loop-k.invariant

@@ -5,19 +5,19 @@ use Rattle.rules.specs.Trees.{spread, rounds}
 use Rattle.rules.proofs.Rounds.{rounds_step, rounds_none, rounds_fixed}
 use Rattle.rules.proofs.tree_test.flood.Goals as goal
 
-pub returns-then-is-same : goal.returns-then-is-same
-returns-then-is-same c =
+pub returns-then-is_same : goal.returns-then-is_same
+returns-then-is_same c =
     let l = layout c.args.chart.now in
     let reached = c.loop-round.reached in
-    let fixed = sym c.spread-once-next.ensures ∙ same_is c.spread-once-next.result reached (sym c.if-is-same.ensures) in
-    sym (c.loop-round.invariant ∙ rounds_fixed l c.args.path (64 - c.loop-round.-round) reached fixed)
+    let fixed = sym c.spread_once-next.ensures ∙ same_is c.spread_once-next.result reached (sym c.if-is_same.ensures) in
+    sym (c.loop-round.invariant ∙ rounds_fixed l c.args.path (64 - c.loop-round._round) reached fixed)
 
 pub loop-round-preserved : goal.loop-round-preserved
 loop-round-preserved c =
     let l = layout c.args.chart.now in
-    let i = c.loop-round.-round in
+    let i = c.loop-round._round in
     c.loop-round.invariant ∙ rounds_step l c.args.path 64 i c.loop-round.reached c.loop-round-test.true
-    ∙ ap (rounds l c.args.path (64 - (i + 1))) (sym c.spread-once-next.ensures)
+    ∙ ap (rounds l c.args.path (64 - (i + 1))) (sym c.spread_once-next.ensures)
 
 pub returns : goal.returns
-returns c = sym (c.loop-round.invariant ∙ rounds_none (layout c.args.chart.now) c.args.path 64 c.loop-round.-round c.loop-round.reached c.loop-round-test.false)
+returns c = sym (c.loop-round.invariant ∙ rounds_none (layout c.args.chart.now) c.args.path 64 c.loop-round._round c.loop-round.reached c.loop-round-test.false)

@@ -5,4 +5,4 @@ use Rattle.rules.proofs.tree_test.flood.Given as goal
 
 -- the rounds still to come lead to the same
 abbrev pub invariant-loop-round : goal.invariant-loop-round
-invariant-loop-round l = rounds (layout l.chart) l.path 64 l.initial.reached ≡ rounds (layout l.chart) l.path (64 - l.-round) l.reached
+invariant-loop-round l = rounds (layout l.chart) l.path 64 l.initial.reached ≡ rounds (layout l.chart) l.path (64 - l._round) l.reached

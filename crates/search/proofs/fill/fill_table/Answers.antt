@@ -12,8 +12,8 @@ use Rattle.tariff.specs.Pricing.{pricing_of}
 pub loop-i-init : goal.loop-i-init
 loop-i-init g c = (filled_none _ _ _ _ _, refl, refl)
 
-pub source-of-source-requires : goal.source-of-source-requires
-source-of-source-requires g c =
+pub source_of-source-requires : goal.source_of-source-requires
+source_of-source-requires g c =
     let l = layout (g.P.Policy.charted c.args.policy.now) in
     let nodes = c.args.nodes.now in
     let i = c.loop-i.i in
@@ -24,8 +24,8 @@ source-of-source-requires g c =
       joins = joinable l nodes f i (node nodes i) early (λ k h. c.requires.profiles k (omega arith)) (c.requires.sound.placed i c.loop-i-test.true);
     }
 
-pub fill-row-requires : goal.fill-row-requires
-fill-row-requires g c =
+pub fill_row-requires : goal.fill_row-requires
+fill_row-requires g c =
     let n = c.loop-i.table.servers in
     let e = ap (λ (k : ℕ). length c.args.nodes.now * k) c.loop-i.invariant.1 in
     omega (arith, e, row_ends c.loop-i.i (length c.args.nodes.now) n c.loop-i-test.true, c.loop-i.invariant.0.sized, c.requires.room)
@@ -42,11 +42,11 @@ loop-i-preserved g c =
     let f : ℕ → Profile = λ k. get_or c.args.profiles.now k blank in
     let early = c.requires.sound.earlier i c.loop-i-test.true in
     let e : c.loop-i.table.servers ≡ l.servers = c.loop-i.invariant.1 ∙ c.requires.servers in
-    let r = c.fill-row.ensures.row l may f x (subst (λ (k : ℕ). Sourced l may k f x c.source-of-source.result) (sym e) c.source-of-source.ensures) early in (
-      filled_more pricing may l nodes c.args.table.now.places.now f i t c.fill-row.new.table.places.now early (λ k h. c.requires.profiles k (omega arith)) c.loop-i.invariant.0
-          (subst (λ (k : ℕ). Row k i k (place_from pricing may k l f x (place_at t k)) t c.fill-row.new.table.places.now) e r),
-      c.fill-row.ensures.servers ∙ c.loop-i.invariant.1,
-      c.fill-row.ensures.lent ∙ c.loop-i.invariant.2,
+    let r = c.fill_row.ensures.row l may f x (subst (λ (k : ℕ). Sourced l may k f x c.source_of-source.result) (sym e) c.source_of-source.ensures) early in (
+      filled_more pricing may l nodes c.args.table.now.places.now f i t c.fill_row.new.table.places.now early (λ k h. c.requires.profiles k (omega arith)) c.loop-i.invariant.0
+          (subst (λ (k : ℕ). Row k i k (place_from pricing may k l f x (place_at t k)) t c.fill_row.new.table.places.now) e r),
+      c.fill_row.ensures.servers ∙ c.loop-i.invariant.1,
+      c.fill_row.ensures.lent ∙ c.loop-i.invariant.2,
     )
 
 pub returns : goal.returns

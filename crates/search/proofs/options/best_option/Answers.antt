@@ -13,8 +13,8 @@ returns g c = λ may j h.
     let places = c.args.table.now.places.now in
     let t = pricing_of g.T.Tariff.free g.T.Tariff.sum g.T.Tariff.leq g.T.Tariff.release c.args.tariff.now in
     let b = better {X = Place g.row.T-Price.Denot} t.leq (λ p. p.price) in
-    let whole = c.better-whole.ensures ∙ ap₂ b (c.best-by-local.ensures may j h) (c.best-by-left.ensures may j h) in
-    let semi = c.better-semi.ensures ∙ ap₂ b whole (c.best-by-left-semi.ensures may j h) in
-    let right = c.better.ensures ∙ ap₂ b semi (c.best-by-right.ensures may j h) in
-    c.better-2.ensures ∙ ap₂ b right (c.best-by-right-semi.ensures may j h)
+    let whole = c.better-whole.ensures ∙ ap₂ b (c.best_by-local.ensures may j h) (c.best_by-left.ensures may j h) in
+    let semi = c.better-semi.ensures ∙ ap₂ b whole (c.best_by-left_semi.ensures may j h) in
+    let right = c.better.ensures ∙ ap₂ b semi (c.best_by-right.ensures may j h) in
+    c.better-2.ensures ∙ ap₂ b right (c.best_by-right_semi.ensures may j h)
     ∙ sym (best_five t may n j (place_at places n c.args.operands.left) (place_at places n c.args.operands.right) c.args.master)

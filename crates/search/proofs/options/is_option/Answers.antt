@@ -7,8 +7,8 @@ returns-then-fits c = λ may n j h x y.
     let m = c.args.mode in
     let s = c.args.master in
     let u = c.args.other in
-    let a = c.left-at-left.ensures in
-    let b = c.right-at-right.ensures in
-    let e = c.is-open.ensures may n j h (subst (λ (k : ℕ). k < n) (sym a) x) (subst (λ (k : ℕ). k < n) (sym b) y) in
+    let a = c.left_at-left.ensures in
+    let b = c.right_at-right.ensures in
+    let e = c.is_open.ensures may n j h (subst (λ (k : ℕ). k < n) (sym a) x) (subst (λ (k : ℕ). k < n) (sym b) y) in
     e ∙ ap₂ (λ k l. allowed may (releases j m k l)) a b
     ∙ sym (ap (λ (t : Bool). t && allowed may (releases j m (left_at m s u) (right_at m s u))) (sym c.if-fits.ensures))

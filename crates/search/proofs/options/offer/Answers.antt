@@ -6,14 +6,14 @@ use Rattle.search.proofs.Offers.{weighed_shut, weighed_open}
 use Rattle.search.proofs.options.offer.Goals as goal
 use Rattle.tariff.specs.Pricing.{pricing_of}
 
-pub returns-then-not-is-option : goal.returns-then-not-is-option
-returns-then-not-is-option g c = λ may n j h x y.
+pub returns-then-not-is_option : goal.returns-then-not-is_option
+returns-then-not-is_option g c = λ may n j h x y.
     let m = c.args.mode in
     let s = c.args.master in
     let u = c.args.other in
     let sent = releases j m (left_at m s u) (right_at m s u) in
     let t = pricing_of g.T.Tariff.free g.T.Tariff.sum g.T.Tariff.leq g.T.Tariff.release c.args.tariff.now in
-    sym (weighed_shut t (fits m s u && allowed may sent) m u (own_price t sent) _ _ (sym (c.is-option.ensures may n j h x y) ∙ c.if-not-is-option.true))
+    sym (weighed_shut t (fits m s u && allowed may sent) m u (own_price t sent) _ _ (sym (c.is_option.ensures may n j h x y) ∙ c.if-not-is_option.true))
 
 pub returns : goal.returns
 returns g c = λ may n j h x y.
@@ -22,8 +22,8 @@ returns g c = λ may n j h x y.
     let u = c.args.other in
     let sent = releases j m (left_at m s u) (right_at m s u) in
     let t = pricing_of g.T.Tariff.free g.T.Tariff.sum g.T.Tariff.leq g.T.Tariff.release c.args.tariff.now in
-    let own : c.price-of-own.result ≡ own_price t sent =
-    c.price-of-own.ensures may n j h ∙ ap₂ (λ a b. own_price t (releases j m a b)) c.left-at-left-at.ensures c.right-at-right-at.ensures in
+    let own : c.price_of-own.result ≡ own_price t sent =
+    c.price_of-own.ensures may n j h ∙ ap₂ (λ a b. own_price t (releases j m a b)) c.left_at-left_at.ensures c.right_at-right_at.ensures in
     let price = c.join.ensures ∙ ap₂ t.sum c.join-operands.ensures own in
     ap (λ v. Some (holding v m u)) price
-    ∙ sym (weighed_open t (fits m s u && allowed may sent) m u (own_price t sent) c.args.left c.args.right (sym (c.is-option.ensures may n j h x y) ∙ c.if-not-is-option.false))
+    ∙ sym (weighed_open t (fits m s u && allowed may sent) m u (own_price t sent) c.args.left c.args.right (sym (c.is_option.ensures may n j h x y) ∙ c.if-not-is_option.false))

@@ -24,7 +24,7 @@ loop-server-preserved g c =
     let n = c.args.table.now.servers in
     let f : ℕ → Option (Seat g.row.T-Price.Denot) = λ s. seat_of s (place_at c.args.table.now.places.now n c.args.node s) in
     taken_up (pricing_of g.T.Tariff.free g.T.Tariff.sum g.T.Tariff.leq g.T.Tariff.release c.args.tariff.now).leq (λ q. q.price) f c.loop-server.server c.loop-server.best c.loop-server.invariant
-    _ _ (ap (seat_of c.loop-server.server) (sym c.at.ensures ∙ c.in-Some.is)) c.better-seat-best.ensures
+    _ _ (ap (seat_of c.loop-server.server) (sym c.at.ensures ∙ c.in-Some.is)) c.better_seat-best.ensures
 
 pub returns : goal.returns
 returns g c =

@@ -17,9 +17,9 @@ loop-server-preserved g c =
     let i = c.loop-server.server in
     let t = c.loop-server.table.places.now in
     let pricing = pricing_of g.T.Tariff.free g.T.Tariff.sum g.T.Tariff.leq g.T.Tariff.release c.args.tariff.now in (
-      λ l may f x h a. row_turn pricing may n l f x c.args.node i c.args.table.now.places.now t _ c.place-of-place.result a (omega arith) c.requires (c.loop-server.invariant.0 l may f x h a)
-          (c.place-of-place.ensures l may f x (subst (λ (k : ℕ). Sourced l may k f x c.args.source.now) (sym e) h) ∙ ap (λ (k : ℕ). place_from pricing may k l f x (place_at t k) i) e)
-          (c.put.ensures.after ∙ ap (λ (k : ℕ). set t (c.args.node * k + i) c.place-of-place.result) e),
+      λ l may f x h a. row_turn pricing may n l f x c.args.node i c.args.table.now.places.now t _ c.place_of-place.result a (omega arith) c.requires (c.loop-server.invariant.0 l may f x h a)
+          (c.place_of-place.ensures l may f x (subst (λ (k : ℕ). Sourced l may k f x c.args.source.now) (sym e) h) ∙ ap (λ (k : ℕ). place_from pricing may k l f x (place_at t k) i) e)
+          (c.put.ensures.after ∙ ap (λ (k : ℕ). set t (c.args.node * k + i) c.place_of-place.result) e),
       c.put.ensures.servers ∙ e,
       c.put.ensures.lent ∙ c.loop-server.invariant.2,
     )

@@ -17,10 +17,10 @@ pub returns-in-Operand : goal.returns-in-Operand
 returns-in-Operand g c = λ l may f x h.
     let n = c.args.table.now.servers in
     by_operand (pricing_of g.T.Tariff.free g.T.Tariff.sum g.T.Tariff.leq g.T.Tariff.release c.args.tariff.now) may n l f (place_at c.args.table.now.places.now n) c.args.server x c.in-Operand.operand _
-    (subst (λ (v : Source). Sourced l may n f x v) c.in-Operand.is h) (c.kept-place.ensures ∙ ap (kept c.args.server) c.at.ensures)
+    (subst (λ (v : Source). Sourced l may n f x v) c.in-Operand.is h) (c.kept_place.ensures ∙ ap (kept c.args.server) c.at.ensures)
 
 pub returns-in-Options : goal.returns-in-Options
 returns-in-Options g c = λ l may f x h.
     let n = c.args.table.now.servers in
     by_options (pricing_of g.T.Tariff.free g.T.Tariff.sum g.T.Tariff.leq g.T.Tariff.release c.args.tariff.now) may n l f (place_at c.args.table.now.places.now n) c.args.server x c.in-Options.operands c.in-Options.sends _
-    (subst (λ (v : Source). Sourced l may n f x v) c.in-Options.is h) (λ j s. c.best-option.ensures may j s)
+    (subst (λ (v : Source). Sourced l may n f x v) c.in-Options.is h) (λ j s. c.best_option.ensures may j s)

@@ -13,9 +13,9 @@ returns g c =
     let may = g.P.Policy.reading c.args.policy.now (g.P.Policy.rules c.args.policy.now) in
     let pricing = pricing_of g.T.Tariff.free g.T.Tariff.sum g.T.Tariff.leq g.T.Tariff.release c.args.tariff.now in
     let nodes = c.args.nodes.now in
-    let new = c.fill-table.new.table.places.now in
-    let n : c.fill-table.new.table.servers ≡ l.servers = c.fill-table.ensures.servers ∙ c.servers-servers.ensures ∙ ap (λ (v : Chart). (layout v).servers) c.chart.ensures in
+    let new = c.fill_table.new.table.places.now in
+    let n : c.fill_table.new.table.servers ≡ l.servers = c.fill_table.ensures.servers ∙ c.servers-servers.ensures ∙ ap (λ (v : Chart). (layout v).servers) c.chart.ensures in
     record {
-      outcome = c.read-outcome.ensures ∙ ap (λ (k : ℕ). read_from pricing k (length nodes) (place_at new k)) n ∙ outcome_is pricing may l nodes c.args.work.now new c.requires.sound.some c.fill-table.ensures.filled;
+      outcome = c.read_outcome.ensures ∙ ap (λ (k : ℕ). read_from pricing k (length nodes) (place_at new k)) n ∙ outcome_is pricing may l nodes c.args.work.now new c.requires.sound.some c.fill_table.ensures.filled;
       filled = search rules;
     }

@@ -7,8 +7,8 @@ use Rattle.queries.specs.Questions.{tree_questions, answered, count_fits, tree_a
 use Rattle.queries.specs.Sound.{Sound}
 use Rattle.search.proofs.run.search_tree.Goals as goal
 
-pub run-search-requires : goal.run-search-requires
-run-search-requires g c =
+pub run_search-requires : goal.run_search-requires
+run_search-requires g c =
     let nodes = c.args.nodes.now in
     let h = c.in-Ok.ensures in
     let e = c.chart-chart.ensures in
@@ -27,18 +27,18 @@ returns-in-Ok g c =
     let h = c.in-Ok.ensures in
     let e = c.chart-chart.ensures in
     let n = ap (λ (k : ℕ). length nodes * k) (c.servers.ensures ∙ ap (λ (v : Chart). (layout v).servers) e) in
-    let fit : count_fits nodes ≡ true = sym c.has-fit-count.ensures ∙ c.if-not-has-fit-count.false in
+    let fit : count_fits nodes ≡ true = sym c.has_fit_count.ensures ∙ c.if-not-has_fit_count.false in
     let room : leb (length nodes * l.servers) (length c.args.work.now) ≡ true = le-leb (length nodes * l.servers) (length c.args.work.now) (omega (arith, n, c.if-work-nodes.false)) in
     let yes' : Ok tt ≡ answered (tree_questions l nodes) =
     h.answer ∙ ap (λ (v : Chart). tree_answer (layout v) nodes) e ∙ cond-true (count_fits nodes) (answered (tree_questions l nodes)) (Err Count) fit in
     record {
       answer = yes' ∙ sym (cond-true (leb (length nodes * l.servers) (length c.args.work.now)) (answered (tree_questions l nodes)) (Err Room) room)
           ∙ sym (cond-true (count_fits nodes) (cond (leb (length nodes * l.servers) (length c.args.work.now)) (answered (tree_questions l nodes)) (Err Room)) (Err Count) fit);
-      table = c.run-search.ensures.filled;
+      table = c.run_search.ensures.filled;
       found = record {
         sound = subst (λ (v : Chart). Sound (layout v) nodes) e h.sound;
         sized = h.sized;
         profiles = λ k b. h.profiles k b ∙ ap (λ (v : Chart). node_profile (layout v) nodes k) e;
-        outcome = c.run-search.ensures.outcome;
+        outcome = c.run_search.ensures.outcome;
       };
     }

@@ -17,7 +17,7 @@ loop-server-preserved g c =
     let inv = c.loop-server.invariant in
     elim c.if-allows.branch [
       | then-allows w ↦
-          let came = inl (sym c.allows.ensures ∙ w.if-allows.true, λ s. ap (λ (t : SmallSet). has t s) w.receivers-is ∙ w.with-server-receivers.ensures s) in
+          let came = inl (sym c.allows.ensures ∙ w.if-allows.true, λ s. ap (λ (t : SmallSet). has t s) w.receivers-is ∙ w.with_server-receivers.ensures s) in
           (told_more may i old new inv.0 inv.1 came, rest_more may i old new inv.0 inv.1 came)
       | else-allows w ↦
           let came = inr (sym c.allows.ensures ∙ w.if-allows.false, w.receivers-is) in

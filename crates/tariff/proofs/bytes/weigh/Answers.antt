@@ -13,7 +13,7 @@ loop-a-preserved c =
     elim c.if-contains.branch [
       | then-contains w ↦
           let e : c.if-contains.total ≡ capped (c.loop-a.total + width_of l i) =
-          w.total-is ∙ w.saturating-add-total.ensures ∙ ap (λ n. capped (c.loop-a.total + n)) (w.from.ensures ∙ w.width.ensures) in (
+          w.total-is ∙ w.saturating_add-total.ensures ∙ ap (λ n. capped (c.loop-a.total + n)) (w.from.ensures ∙ w.width.ensures) in (
             weighed_turn l c.args.shown i c.loop-a.total c.if-contains.total c.loop-a-test.true
                 (inl (sym c.contains.ensures ∙ w.if-contains.true, e)) ∙ c.loop-a.invariant.0,
             omega arith,
