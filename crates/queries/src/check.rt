@@ -166,7 +166,7 @@ fn check_nodes(
 ) -> Result<SmallSet, TreeRefusal>
     requires { (length nodes.now ≤ length profiles.old) × (length nodes.now ≤ 63) }
     ensures answer { verdict result ≡ answered (questions_from (layout chart.now) nodes.now 0 (length nodes.now)) }
-    ensures used { made result (λ u. (j : ℕ) → j < 64 → has u j ≡ used_by nodes.now (length nodes.now) j) }
+    ensures used { IfOk result (λ u. (j : ℕ) → j < 64 → has u j ≡ used_by nodes.now (length nodes.now) j) }
     ensures profiles { OnOk result ((k : ℕ) → k < length nodes.now → slice_index_or profiles.new k blank ≡ node_profile (layout chart.now) nodes.now k) }
 {
     let mut seen = Seen {

@@ -38,10 +38,10 @@ loop-record-preserved c =
     let none : RuleRecord = record { number = 0; view = record { server = 0; attributes = record { bits = 0 }; path = record { bits = 0 } } } in
     let rules = held c.loop-record.book.slots in
     let r = get_or records i none in
-    let was : Ok tt ≡ entry_answer (layout c.loop-record.book.chart) exact_fits rules r = c.in-default.ensures.answer in
+    let was : Ok tt ≡ entry_answer (layout c.loop-record.book.chart) exact_fits rules r = c.in_default.ensures.answer in
     let yes_entry : Ok tt ≡ entry_answer l exact_fits rules r = was ∙ ap (λ (ch : Chart). entry_answer (layout ch) exact_fits rules r) c.loop-record.invariant.0 in
-    let same : Same (held c.enter.new.self.slots) (rules_after (entry_answer (layout c.loop-record.book.chart) exact_fits rules r) rules (r ∷ rules)) = c.in-default.ensures.after in (
-      c.in-default.ensures.chart ∙ c.loop-record.invariant.0,
+    let same : Same (held c.enter.new.self.slots) (rules_after (entry_answer (layout c.loop-record.book.chart) exact_fits rules r) rules (r ∷ rules)) = c.in_default.ensures.after in (
+      c.in_default.ensures.chart ∙ c.loop-record.invariant.0,
       entered_on l rules records i none c.loop-record-test.true (held c.enter.new.self.slots) yes_entry
           (subst (λ a. Same (held c.enter.new.self.slots) (rules_after a rules (r ∷ rules))) (sym was) same)
           ∙ c.loop-record.invariant.1,

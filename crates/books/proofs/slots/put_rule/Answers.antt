@@ -19,10 +19,10 @@ returns-then-holds_number c =
       formed = λ l h k. h;
     }
 
-pub returns-in-default : goal.returns-in-default
-returns-in-default c =
+pub returns-in_default : goal.returns-in_default
+returns-in_default c =
     let rules = held c.args.slots.now in
-    let full : 64 < length (c.args.rule.given ∷ rules) = omega (arith, c.in-default.ensures.finds, c.requires) in
+    let full : 64 < length (c.args.rule.given ∷ rules) = omega (arith, c.in_default.ensures.finds, c.requires) in
     record {
       answer = place_unfit exact_fits rules c.args.rule.given (sym c.if-holds_number.ensures) (lt-leb (length (c.args.rule.given ∷ rules)) 64 full);
       after = same_refl rules;

@@ -10,12 +10,12 @@ use Rattle.books.specs.Slots.{held}
 use Rattle.books.proofs.Held.{absent, holds_in_force, held_emptied, all_fewer, apart_fewer}
 use Rattle.books.proofs.slots.take_rule.Goals as goal
 
-pub returns-in-default : goal.returns-in-default
-returns-in-default c =
+pub returns-in_default : goal.returns-in_default
+returns-in_default c =
     let rules = held c.args.slots.now in
     record {
-      answer = sym (ap (λ b. cond b (Ok tt) (Err NotInForce)) c.in-default.ensures.finds);
-      after = subst (Same rules) (sym (absent rules c.args.number c.in-default.ensures.finds)) (same_refl rules);
+      answer = sym (ap (λ b. cond b (Ok tt) (Err NotInForce)) c.in_default.ensures.finds);
+      after = subst (Same rules) (sym (absent rules c.args.number c.in_default.ensures.finds)) (same_refl rules);
       distinct = c.requires;
       formed = λ l h. h;
     }

@@ -9,4 +9,4 @@ invariant_of-result c =
     let l = layout c.args.chart in
     let none = members_none l in
     let few : length (members l []) ≤ 256 = omega (arith, ap length none) in
-    ((refl, refl, omega arith), ((refl, refl), ((few, λ v. sym (ap (among v) none)), tt)))
+    record { sized = (refl, refl, omega arith); ruled = (refl, refl); grown = (few, λ v. sym (ap (among v) none)) }

@@ -21,19 +21,19 @@ returns-then-holds_number c =
       after = same_refl rules;
     }
 
-pub returns-in-default : goal.returns-in-default
-returns-in-default c =
+pub returns-in_default : goal.returns-in_default
+returns-in_default c =
     let l = layout c.args.chart.now in
     let rules = held c.args.slots.now in
     let r = c.args.rule.given in
     record {
       kept = c.requires.kept;
-      answer = place_unfit (composed_fits l) rules r (sym c.if-holds_number.ensures) (full_unfit l rules r (omega (arith, c.in-default.ensures.finds, c.told-slots)));
+      answer = place_unfit (composed_fits l) rules r (sym c.if-holds_number.ensures) (full_unfit l rules r (omega (arith, c.in_default.ensures.finds, c.told-slots)));
       after = same_refl rules;
     }
 
-pub returns-in-default-grow_slots : goal.returns-in-default-grow_slots
-returns-in-default-grow_slots c =
+pub returns-in_default-grow_slots : goal.returns-in_default-grow_slots
+returns-in_default-grow_slots c =
     let ch = c.args.chart.now in
     let slots = c.args.slots.now in
     let r = c.args.rule in
@@ -42,7 +42,7 @@ returns-in-default-grow_slots c =
     record {
       kept = c.requires.kept;
       answer = place_unfit (composed_fits (layout ch)) (held slots) r.given (sym c.if-holds_number.ensures)
-          (more_unfit ch (held slots) (held (set slots c.in-Some.i (Some r))) r.given filled c.in-default-grow_slots.ensures);
+          (more_unfit ch (held slots) (held (set slots c.in-Some.i (Some r))) r.given filled c.in_default-grow_slots.ensures);
       after = same_refl (held slots);
     }
 

@@ -13,13 +13,13 @@ use Rattle.composed.specs.Composed.{composed_members}
 use Rattle.composed.specs.Books.{kept_from, kept_stored, fewer_few}
 use Rattle.composed.proofs.calls.take_rule.Goals as goal
 
-pub returns-in-default : goal.returns-in-default
-returns-in-default c =
+pub returns-in_default : goal.returns-in_default
+returns-in_default c =
     let rules = held c.args.slots.now in
     record {
       kept = c.requires;
-      answer = sym (ap (λ b. cond b (Ok tt) (Err NotInForce)) c.in-default.ensures.finds);
-      after = subst (Same rules) (sym (absent rules c.args.number c.in-default.ensures.finds)) (same_refl rules);
+      answer = sym (ap (λ b. cond b (Ok tt) (Err NotInForce)) c.in_default.ensures.finds);
+      after = subst (Same rules) (sym (absent rules c.args.number c.in_default.ensures.finds)) (same_refl rules);
     }
 
 pub unreachable-requires : goal.unreachable-requires
@@ -31,7 +31,7 @@ unreachable-requires c =
     held_emptied slots c.in-Some.i h.rule h.there c.requires.distinct ∙ ap (withdrawal_list (held slots)) h.named in
     let few = fewer_few ch (held slots) c.args.number c.requires.few in
     let same = ap (λ rules. length (composed_members (layout ch) rules)) gone in
-    omega (arith, c.in-default-grow_slots.ensures, same)
+    omega (arith, c.in_default-grow_slots.ensures, same)
 
 pub returns : goal.returns
 returns c =

@@ -3,7 +3,7 @@ use Rattle.policy.specs.Reading.{granted}
 use Rattle.books.specs.Slots.{held}
 use Rattle.composed.proofs.Turns.{views_took, views_passed, views_done}
 use Rattle.composed.proofs.grown.write_views.Goals as goal
-use Rattle.composed.proofs.grown.write_views.Goals.{in-Some, in-default}
+use Rattle.composed.proofs.grown.write_views.Goals.{in-Some, in_default}
 
 pub loop-slot-preserved : goal.loop-slot-preserved
 loop-slot-preserved c =
@@ -20,11 +20,11 @@ loop-slot-preserved c =
             ∙ views_took slots i x c.loop-slot-test.true c.slot-item.is c.loop-slot.views c.loop-slot.n all w.in-Some.rule w.in-Some.is
             (omega (arith, c.requires, c.loop-slot.auto.views, c.loop-slot.invariant.0, c.loop-slot-test.true)) c.loop-slot.invariant.1,
       )
-      | in-default w ↦ (
+      | in_default w ↦ (
         omega (arith, w.n-is, c.loop-slot.invariant.0),
         ap (λ n. take n c.match-slot.views ++ rest) w.n-is
             ∙ ap (λ vs. take c.loop-slot.n vs ++ rest) w.views-is
-            ∙ views_passed slots i x c.loop-slot-test.true c.slot-item.is c.loop-slot.views c.loop-slot.n all w.in-default.is c.loop-slot.invariant.1,
+            ∙ views_passed slots i x c.loop-slot-test.true c.slot-item.is c.loop-slot.views c.loop-slot.n all w.in_default.is c.loop-slot.invariant.1,
       )
     ]
 

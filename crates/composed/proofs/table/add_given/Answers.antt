@@ -8,12 +8,12 @@ use Rattle.composed.proofs.table.add_given.Goals as goal
 pub loop-v-init : goal.loop-v-init
 loop-v-init c = (omega arith, refl)
 
-pub returns-in-default : goal.returns-in-default
-returns-in-default c =
+pub returns-in_default : goal.returns-in_default
+returns-in_default c =
     let G = c.args.given.now in
     let i = c.loop-v.v-index in
     let xs = take c.loop-v.n c.loop-v.table in
-    new_over xs (with_new [] G) (get_or G i no_view) (drop (i + 1) G) (sym (at_drop_more (with_new xs) G i no_view c.loop-v-test.true) ∙ c.loop-v.invariant.1) c.in-default.ensures
+    new_over xs (with_new [] G) (get_or G i no_view) (drop (i + 1) G) (sym (at_drop_more (with_new xs) G i no_view c.loop-v-test.true) ∙ c.loop-v.invariant.1) c.in_default.ensures
 
 pub loop-v-preserved : goal.loop-v-preserved
 loop-v-preserved c =

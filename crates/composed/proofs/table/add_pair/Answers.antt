@@ -4,7 +4,7 @@ use Rattle.members.specs.Compose.{compositions}
 use Rattle.members.specs.Members.{with_new}
 use Rattle.members.proofs.Turns.{link_took, link_passed, link_over, link_done, all_links, pair_never, new_none, front_is}
 use Rattle.composed.proofs.table.add_pair.Goals as goal
-use Rattle.composed.proofs.table.add_pair.Goals.{then-is-bridged+in-Some, else-is_bridged}
+use Rattle.composed.proofs.table.add_pair.Goals.{then-is_bridged+in-Some, else-is_bridged}
 
 pub returns-then-not-may_compose : goal.returns-then-not-may_compose
 returns-then-not-may_compose c =
@@ -13,12 +13,12 @@ returns-then-not-may_compose c =
 pub loop-k-init : goal.loop-k-init
 loop-k-init c = (c.requires.1, ap (with_new (take c.args.n c.args.table.now)) (all_links c.args.chart.now c.args.a c.args.b))
 
-pub returns-in-default : goal.returns-in-default
-returns-in-default c =
+pub returns-in_default : goal.returns-in_default
+returns-in_default c =
     let l = layout c.args.chart.now in
     let all = with_new (take c.args.n c.args.table.now) (compositions l c.args.a c.args.b) in
     link_over l c.args.a c.args.b c.loop-k.k c.loop-k-test.true c.if-not-may_compose.ensures (take c.loop-k.n c.loop-k.table) all c.loop-k.invariant.1
-    c.if-is_bridged.ensures c.compose.result c.compose.ensures c.in-default.ensures
+    c.if-is_bridged.ensures c.compose.result c.compose.ensures c.in_default.ensures
 
 pub loop-k-preserved : goal.loop-k-preserved
 loop-k-preserved c =
@@ -29,7 +29,7 @@ loop-k-preserved c =
     let next = take c.if-is_bridged.n c.if-is_bridged.table in
     let all = with_new (take c.args.n c.args.table.now) (compositions l a b) in
     elim c.if-is_bridged.branch [
-      | then-is-bridged+in-Some w ↦
+      | then-is_bridged+in-Some w ↦
           let h = w.in-Some.ensures in
           let e = front_is (with_new xs (w.compose.result ∷ [])) w.n-is w.table-is h.1 in (
             omega (arith, h.0, w.n-is),

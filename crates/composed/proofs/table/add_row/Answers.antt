@@ -8,11 +8,11 @@ use Rattle.composed.proofs.table.add_row.Goals as goal
 pub loop-j-init : goal.loop-j-init
 loop-j-init c = (omega arith, sym (new_none (take c.args.n c.args.table.now)))
 
-pub returns-in-default : goal.returns-in-default
-returns-in-default c =
+pub returns-in_default : goal.returns-in_default
+returns-in_default c =
     let T = c.args.table.now in
     row_over (compositions (layout c.args.chart.now) (get_or T c.args.i no_view)) T c.loop-j.table c.args.n c.loop-j.n c.args.i c.loop-j.j no_view
-    (omega arith) (omega arith) (omega arith) c.loop-j-test.true c.loop-j.invariant.1 c.in-default.ensures
+    (omega arith) (omega arith) (omega arith) c.loop-j-test.true c.loop-j.invariant.1 c.in_default.ensures
 
 pub loop-j-preserved : goal.loop-j-preserved
 loop-j-preserved c =

@@ -14,8 +14,8 @@ use Rattle.composed.proofs.table.close.Goals as goal
 pub loop-i-init : goal.loop-i-init
 loop-i-init c = (omega arith, c.requires.1, λ given g. g)
 
-pub returns-in-default : goal.returns-in-default
-returns-in-default c given start =
+pub returns-in_default : goal.returns-in_default
+returns-in_default c given start =
     let chart = c.args.chart.now in
     let T = c.loop-i.table in
     let n = c.loop-i.n in
@@ -23,7 +23,7 @@ returns-in-default c given start =
     let xs = take n T in
     let row = flat_map (compositions (layout chart) (get_or xs i no_view)) (take i xs) in
     let more = growing_more chart given xs i no_view (omega (arith, length-take-le n T (omega arith))) (c.loop-i.invariant.2 given start) in
-    omega (arith, growing_le chart given (with_new xs row) (i + 1) more, ap length (row_same (compositions (layout chart)) T n i no_view (omega arith)), c.in-default.ensures)
+    omega (arith, growing_le chart given (with_new xs row) (i + 1) more, ap length (row_same (compositions (layout chart)) T n i no_view (omega arith)), c.in_default.ensures)
 
 pub loop-i-preserved : goal.loop-i-preserved
 loop-i-preserved c =

@@ -6,11 +6,11 @@ use Rattle.members.specs.Table.{Growing}
 use Rattle.members.proofs.Growing.{growing_start, growing_le}
 use Rattle.composed.proofs.table.fill.Goals as goal
 
-pub returns-in-default : goal.returns-in-default
-returns-in-default c =
+pub returns-in_default : goal.returns-in_default
+returns-in_default c =
     let chart = c.args.chart.now in
     let G = c.args.given.now in
-    omega (arith, growing_le chart G (with_new [] G) 0 (growing_start (layout chart) G), c.in-default.ensures)
+    omega (arith, growing_le chart G (with_new [] G) 0 (growing_start (layout chart) G), c.in_default.ensures)
 
 pub returns : goal.returns
 returns c =

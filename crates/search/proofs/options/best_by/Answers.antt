@@ -12,19 +12,19 @@ use Rattle.tariff.specs.Pricing.{pricing_of}
 pub loop-other-init : goal.loop-other-init
 loop-other-init g c = λ may j h. sym (cheapest_none _ _ _)
 
-pub loop-other-preserved-in-default : goal.loop-other-preserved-in-default
-loop-other-preserved-in-default g c = λ may j h.
+pub loop-other-preserved-in_default : goal.loop-other-preserved-in_default
+loop-other-preserved-in_default g c = λ may j h.
     let n = c.args.table.now.servers in
     let places = c.args.table.now.places.now in
     left_empty (pricing_of g.T.Tariff.free g.T.Tariff.sum g.T.Tariff.leq g.T.Tariff.release c.args.tariff.now) may n j (place_at places n c.args.operands.left) (place_at places n c.args.operands.right) c.args.master c.args.mode c.loop-other.other c.loop-other.best (c.loop-other.invariant may j h)
-    _ _ c.left_at.ensures c.at.ensures c.in-default.is
+    _ _ c.left_at.ensures c.at.ensures c.in_default.is
 
-pub loop-other-preserved-in-default-at : goal.loop-other-preserved-in-default-at
-loop-other-preserved-in-default-at g c = λ may j h.
+pub loop-other-preserved-in_default-at : goal.loop-other-preserved-in_default-at
+loop-other-preserved-in_default-at g c = λ may j h.
     let n = c.args.table.now.servers in
     let places = c.args.table.now.places.now in
     right_empty (pricing_of g.T.Tariff.free g.T.Tariff.sum g.T.Tariff.leq g.T.Tariff.release c.args.tariff.now) may n j (place_at places n c.args.operands.left) (place_at places n c.args.operands.right) c.args.master c.args.mode c.loop-other.other c.loop-other.best (c.loop-other.invariant may j h)
-    _ _ c.right_at.ensures c.at-in-loop-other.ensures c.in-default-at.is
+    _ _ c.right_at.ensures c.at-in-loop-other.ensures c.in_default-at.is
 
 pub loop-other-preserved : goal.loop-other-preserved
 loop-other-preserved g c = λ may j h.

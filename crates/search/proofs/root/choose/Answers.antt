@@ -12,12 +12,12 @@ use Rattle.tariff.specs.Pricing.{pricing_of}
 pub loop-server-init : goal.loop-server-init
 loop-server-init g c = sym (cheapest_none _ _ _)
 
-pub loop-server-preserved-in-default : goal.loop-server-preserved-in-default
-loop-server-preserved-in-default g c =
+pub loop-server-preserved-in_default : goal.loop-server-preserved-in_default
+loop-server-preserved-in_default g c =
     let n = c.args.table.now.servers in
     let f : ℕ → Option (Seat g.row.T-Price.Denot) = λ s. seat_of s (place_at c.args.table.now.places.now n c.args.node s) in
     passed_over (pricing_of g.T.Tariff.free g.T.Tariff.sum g.T.Tariff.leq g.T.Tariff.release c.args.tariff.now).leq (λ q. q.price) f c.loop-server.server c.loop-server.best c.loop-server.invariant
-    (ap (seat_of c.loop-server.server) (sym c.at.ensures ∙ c.in-default.is))
+    (ap (seat_of c.loop-server.server) (sym c.at.ensures ∙ c.in_default.is))
 
 pub loop-server-preserved : goal.loop-server-preserved
 loop-server-preserved g c =
