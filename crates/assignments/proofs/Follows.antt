@@ -11,7 +11,7 @@ use Rattle.assignments.specs.declared.mode.Mode.TheVariants.{Local}
 use Rattle.assignments.specs.declared.parts.Step.{Step}
 use Rattle.assignments.specs.declared.parts.Place.{Place}
 use Rattle.assignments.specs.Modes.{Joins, other_of, left_at, right_at, releases, allowed}
-use Rattle.assignments.specs.Assignments.{Steps, step, executor, own_price, cost, other}
+use Rattle.assignments.specs.Assignments.{Steps, step, executor, own_price, cost}
 use Rattle.assignments.specs.Table.{holding, same_server, kept, place, left_by, right_by, mode_by, recorded}
 use Rattle.assignments.specs.Stands.{Distinct}
 use Rattle.assignments.specs.Follows.{Holds, Follows}

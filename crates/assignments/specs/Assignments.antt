@@ -1,10 +1,9 @@
 -- Assignments. An assignment gives each node of a tree, by its number, an executor and a mode. It mentions no policy, no
 -- price and no table.
-use Rattle.std.specs.Prelude.{◌≡◌, ℕ, Bool, true, List, [], ◌∷◌, ◌++◌, Some}
+use Rattle.std.specs.Prelude.{◌≡◌, ℕ, Bool, true, List, [], ◌∷◌, Some}
 use Rattle.chart.specs.Layout.{Layout}
 use Rattle.chart.specs.Lookup.{server_of}
 use Rattle.profile.specs.declared.shape.Profile.{Profile}
-use Rattle.profile.specs.declared.join.Join.{Join}
 use Rattle.tariff.specs.Pricing.{Pricing}
 use Rattle.queries.specs.Trees.{Tree, leaf, projection, filtering, join, top, pair_of}
 use Rattle.assignments.specs.declared.mode.Mode.{Mode}

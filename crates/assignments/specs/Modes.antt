@@ -1,5 +1,5 @@
 -- How a join is executed, and what its operands send one another.
-use Rattle.std.specs.Prelude.{◌≡◌, ℕ, ◌<◌, Bool, true, not, ◌&&◌, ◌⊎◌, List, [], ◌∷◌, ◌==◌, ◌≢◌, slice_index_or}
+use Rattle.std.specs.Prelude.{◌≡◌, ℕ, Bool, true, not, ◌&&◌, List, [], ◌∷◌, ◌==◌, ◌≢◌, slice_index_or}
 use Rattle.profile.specs.declared.shape.Profile.{Profile}
 use Rattle.profile.specs.declared.join.Join.{Join}
 use Rattle.profile.specs.declared.join.Side.TheVariants.{Left, Right}

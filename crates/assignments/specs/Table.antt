@@ -9,11 +9,10 @@ use Rattle.tariff.specs.Pricing.{Pricing}
 use Rattle.queries.specs.Trees.{Tree, leaf, projection, filtering, join, has_node, pair_of}
 use Rattle.assignments.specs.declared.mode.Mode.{Mode}
 use Rattle.assignments.specs.declared.mode.Mode.TheVariants.{Local}
-use Rattle.assignments.specs.declared.parts.Step.{Step}
 use Rattle.assignments.specs.declared.parts.Place.{Place}
 use Rattle.assignments.specs.Modes.{mode_at, fits, left_at, right_at, releases, allowed}
 use Rattle.assignments.specs.Assignments.{Steps, step, own_price}
-use Rattle.assignments.specs.Cheapest.{better, cheapest}
+use Rattle.assignments.specs.Cheapest.{cheapest}
 
 abbrev pub holding : {P : Type 0} → P → Mode → ℕ → Place P
 holding x m u = record { price = x; mode = m; other = u }

@@ -1,14 +1,14 @@
 -- Records entered one after another into an exact book.
-use Rattle.std.proofs.Common.{◌≡◌, ℕ, suc, ◌+◌, ◌<◌, ◌≤◌, Bool, true, false, cond, not, ◌&&◌, ◌||◌, eqb, leb, List, [], ◌∷◌, length, get_or, drop, Ok, Err, Result, sym, refl, ap, ◌∙◌, arith}
+use Rattle.std.proofs.Common.{◌≡◌, ℕ, suc, ◌+◌, ◌<◌, ◌≤◌, Bool, true, false, cond, not, ◌&&◌, eqb, leb, List, [], ◌∷◌, length, get_or, drop, Ok, Err, Result, sym, refl, ap, ◌∙◌, arith}
 use Rattle.std.proofs.lemmas.List.{at_drop_more, at_drop_all}
-use Rattle.std.proofs.lemmas.Bool.{and_parts, and_from, not-true, not_from_false, or_from, or_left, or_right, eq-eqb, ne_eqb, both_ways}
+use Rattle.std.proofs.lemmas.Bool.{and_from, not_from_false, or_from, or_left, or_right, eq-eqb, ne_eqb, both_ways}
 use Rattle.chart.specs.Questions.{asked}
-use Rattle.chart.specs.Layout.{Layout, all_of, any_of}
+use Rattle.chart.specs.Layout.{Layout, all_of}
 use Rattle.rules.specs.declared.view.RuleRecord.{RuleRecord}
 use Rattle.rules.specs.declared.refusal.RuleRefusal.{RuleRefusal}
 use Rattle.rules.specs.Rules.{rule_questions, rule_answer, well_formed}
 use Rattle.policy.specs.declared.refusal.BookRefusal.{BookRefusal}
-use Rattle.policy.specs.declared.refusal.BookRefusal.TheVariants.{Rule, InForce, Full}
+use Rattle.policy.specs.declared.refusal.BookRefusal.TheVariants.{InForce, Full}
 use Rattle.policy.specs.Same.{Same, keep}
 use Rattle.policy.specs.Books.{in_force, apart, own_first, place_answer, entry_answer}
 use Rattle.policy.proofs.Orders.{same_any, same_length}

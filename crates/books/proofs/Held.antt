@@ -1,5 +1,5 @@
 -- Slots that are filled and emptied.
-use Rattle.std.proofs.Common.{◌≡◌, ℕ, zero, suc, ◌+◌, ◌<◌, ◌≤◌, Bool, true, false, cond, not, ◌&&◌, ◌||◌, eqb, List, [], ◌∷◌, length, get_or, drop, set, is_some, Some, None, Ok, Err, filter, Option, sym, refl, ap, ◌∙◌, zero-add, arith, MatchOption}
+use Rattle.std.proofs.Common.{◌≡◌, ℕ, zero, suc, ◌+◌, ◌<◌, ◌≤◌, Bool, true, false, cond, not, ◌||◌, eqb, List, [], ◌∷◌, length, get_or, drop, set, is_some, Some, None, Ok, Err, filter, Option, sym, refl, ap, ◌∙◌, zero-add, arith, MatchOption}
 use Rattle.std.specs.Option.{option_map}
 use Rattle.std.proofs.lemmas.List.{at_drop_more, at_drop_all, get_or_read}
 use Rattle.std.proofs.lemmas.Bool.{false≢true, true≢false, eqb-true, and_parts, not-true, not_from_true, not_from_false, eq-eqb, ne_eqb, cond-true, cond-false, both_ways, or_left, or_right, or_parts, or_from, and_from}
@@ -12,7 +12,7 @@ use Rattle.policy.specs.Viewed.{slot_views}
 use Rattle.policy.specs.Reading.{granted}
 use Rattle.policy.specs.Same.{Same, keep, swap, chain}
 use Rattle.policy.specs.Books.{in_force, apart, place_answer, withdrawal_list}
-use Rattle.books.specs.Slots.{held, place_of, numbered, is_free, Holds, Free}
+use Rattle.books.specs.Slots.{held, place_of, Holds, Free}
 use Rattle.policy.proofs.Orders.{same_refl}
 
 clash : {r : Rule} → ◌≡◌ {A = Option Rule} None (Some r) → ⊥

@@ -1,13 +1,11 @@
 -- When entries and withdrawals are accepted.
 use Rattle.std.proofs.Common.{◌≡◌, ℕ, Bool, true, false, cond, not, ◌&&◌, eqb, List, [], ◌∷◌, is_ok, Ok, Err, Decides, Result, sym, refl, ap, ◌∙◌, ap₂, ⊎_elim}
 use Rattle.std.proofs.lemmas.Bool.{and_parts, and_from, eq-eqb, eqb-true, not-true, not_from_false, both_ways, cases_Bool}
-use Rattle.std.proofs.lemmas.Bool.Decides.{Decides-at}
 use Rattle.chart.specs.Questions.{asked}
 use Rattle.chart.specs.Layout.{Layout, all_of}
 use Rattle.rules.specs.declared.view.RuleRecord.{RuleRecord}
 use Rattle.rules.specs.declared.refusal.RuleRefusal.{RuleRefusal}
 use Rattle.rules.specs.Rules.{rule_questions, rule_answer, well_formed}
-use Rattle.policy.specs.declared.refusal.BookRefusal.{BookRefusal}
 use Rattle.policy.specs.declared.refusal.BookRefusal.TheVariants.{InForce, Full, NotInForce}
 use Rattle.policy.specs.Books.{in_force, own_first, place_answer, entry_answer, withdrawal_answer}
 use Rattle.broker.specs.Histories.{Answer, Among}

@@ -1,5 +1,5 @@
 -- The calls of a broker, for every history that led to them.
-use Rattle.std.proofs.Common.{◌≡◌, ℕ, Bool, true, List, [], ◌∷◌, ◌++◌, is_ok, Decides, Option, Result, sym, refl, ap, ◌∙◌, subst}
+use Rattle.std.proofs.Common.{◌≡◌, ℕ, Bool, true, List, [], ◌∷◌, ◌++◌, is_ok, Option, Result, ap, ◌∙◌, subst}
 use mathlib.Core.Path.{fun_ext}
 use Rattle.std.proofs.lemmas.Bool.Decides.{Decides-like}
 use Rattle.chart.specs.declared.state.Chart.{Chart}
@@ -13,7 +13,7 @@ use Rattle.rules.specs.Rules.{well_formed}
 use Rattle.policy.specs.Same.{Same, chain}
 use Rattle.policy.specs.Lawful.{Lawful}
 use Rattle.policy.specs.Books.{apart, entry_answer, entry_list, withdrawal_answer, withdrawal_list}
-use Rattle.policy.proofs.Orders.{same_refl, same_sym}
+use Rattle.policy.proofs.Orders.{same_refl}
 use Rattle.assignments.specs.declared.parts.Step.{Step}
 use Rattle.assignments.specs.declared.parts.Place.{Place}
 use Rattle.assignments.specs.declared.parts.Release.{Release}
@@ -22,7 +22,7 @@ use Rattle.planner.specs.declared.answer.QueryRefusal.{QueryRefusal}
 use Rattle.planner.specs.Queries.{query_answer, work_after, plan_then, releases_then}
 use Rattle.planner.specs.Judged.{Judged}
 use Rattle.broker.specs.Reference.{Reading, Queried}
-use Rattle.broker.specs.Histories.{Answer, Event, entered, withdrew, queried, Among, Stands, Standing, Reached}
+use Rattle.broker.specs.Histories.{Answer, Event, entered, withdrew, queried, Reached}
 use Rattle.broker.specs.Calls.{GoesOn, Enters, Withdraws, Judges}
 use Rattle.broker.proofs.Replay.{entry_answer_same, entry_list_same, withdrawal_answer_same, withdrawal_list_same, reached_push}
 use Rattle.broker.proofs.Standings.{in_force_stands, stands_in_force, standing_same}

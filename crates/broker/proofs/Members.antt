@@ -1,7 +1,7 @@
 -- Rules among lists, and lists with the same rules.
-use Rattle.std.proofs.Common.{◌≡◌, ℕ, Bool, true, false, cond, not, ◌&&◌, ◌||◌, eqb, ◌⊎◌, List, [], ◌∷◌, filter, sym, refl, ap, ◌∙◌, subst, inl, inr, ⊎_elim}
-use Rattle.std.proofs.lemmas.Bool.{and_parts, or_cases, or_left, or_right, or_parts, eq-eqb, eqb-true, not-true, both_ways, false≢true, cond-true, cond-false}
-use Rattle.chart.specs.Layout.{all_of, any_of}
+use Rattle.std.proofs.Common.{◌≡◌, Bool, true, false, cond, not, eqb, ◌⊎◌, List, [], ◌∷◌, filter, sym, refl, ap, ◌∙◌, subst, inl, inr, ⊎_elim}
+use Rattle.std.proofs.lemmas.Bool.{and_parts, or_cases, or_left, or_right, eq-eqb, not-true, both_ways, false≢true}
+use Rattle.chart.specs.Layout.{any_of}
 use Rattle.rules.specs.declared.view.RuleRecord.{RuleRecord}
 use Rattle.policy.specs.Same.{Same, done, keep, swap, chain}
 use Rattle.policy.specs.Books.{in_force, apart}

@@ -1,15 +1,14 @@
 -- The reference broker, call by call, on lists that differ in their order alone.
-use Rattle.std.proofs.Common.{◌≡◌, ℕ, Bool, not, eqb, List, [], ◌∷◌, ◌++◌, Ok, Err, Result, sym, refl, ap, ◌∙◌, subst, ap₂}
+use Rattle.std.proofs.Common.{◌≡◌, ℕ, Bool, not, eqb, List, [], ◌∷◌, ◌++◌, Ok, Err, sym, refl, ap, subst, ap₂}
 use Rattle.chart.specs.Questions.{asked}
 use Rattle.chart.specs.Layout.{Layout}
 use Rattle.rules.specs.declared.view.RuleRecord.{RuleRecord}
 use Rattle.rules.specs.Rules.{rule_answer}
-use Rattle.policy.specs.declared.refusal.BookRefusal.{BookRefusal}
 use Rattle.policy.specs.declared.refusal.BookRefusal.TheVariants.{InForce, Full, NotInForce}
-use Rattle.policy.specs.Same.{Same, done, keep, swap, chain}
-use Rattle.policy.specs.Books.{in_force, own_first, rules_after, entry_answer, entry_list, withdrawal_answer, withdrawal_list}
+use Rattle.policy.specs.Same.{Same, keep}
+use Rattle.policy.specs.Books.{own_first, rules_after, entry_answer, entry_list, withdrawal_answer, withdrawal_list}
 use Rattle.policy.proofs.Orders.{same_any, same_kept}
-use Rattle.broker.specs.Histories.{Answer, Event, entered, withdrew, queried, next, replayed, Answered, AllAnswered, Reached}
+use Rattle.broker.specs.Histories.{Answer, Event, next, replayed, Answered, AllAnswered, Reached}
 
 after_same : (a : Answer) (r : RuleRecord) {xs ys : List RuleRecord} → Same xs ys → Same (rules_after a xs (r ∷ xs)) (rules_after a ys (r ∷ ys))
 after_same (Ok t) r h = keep r h

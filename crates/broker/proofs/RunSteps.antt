@@ -1,12 +1,11 @@
 -- Runs of calls, call by call.
-use Rattle.std.proofs.Common.{◌≡◌, ℕ, ◌+◌, ◌<◌, ◌≤◌, Bool, List, [], ◌∷◌, ◌++◌, length, get_or, take, drop, set, Option, Result, sym, refl, ap, ◌∙◌, subst, arith, Bor}
-use Rattle.std.proofs.lemmas.List.{append_assoc, append-nil, take_more, drop_more, set_at, length-take-le}
+use Rattle.std.proofs.Common.{◌≡◌, ℕ, ◌+◌, ◌<◌, Bool, List, [], ◌∷◌, ◌++◌, length, get_or, drop, set, Option, Result, sym, refl, ap, ◌∙◌, subst, arith, Bor}
+use Rattle.std.proofs.lemmas.List.{append_assoc, append-nil, drop_more, set_at}
 use Rattle.chart.specs.Layout.{Layout}
 use Rattle.tariff.specs.Pricing.{Pricing}
 use Rattle.queries.specs.declared.node.Node.{Node}
 use Rattle.rules.specs.declared.view.RuleRecord.{RuleRecord}
 use Rattle.policy.specs.Same.{Same}
-use Rattle.policy.specs.Books.{entry_answer, withdrawal_answer}
 use Rattle.assignments.specs.declared.parts.Step.{Step}
 use Rattle.assignments.specs.declared.parts.Place.{Place}
 use Rattle.assignments.specs.declared.parts.Release.{Release}
@@ -20,7 +19,7 @@ use Rattle.broker.specs.Reference.{Reading}
 use Rattle.broker.specs.Histories as history
 use Rattle.broker.specs.Histories.{Event, entered, withdrew, queried, Reached}
 use Rattle.broker.specs.Calls.{Enters, Withdraws, Judges}
-use Rattle.broker.specs.Runs.{State, state_by, answer_to, state_after, event_of, answers_to, state_then, events_of, Led, Ran, Stepped}
+use Rattle.broker.specs.Runs.{State, state_by, answer_to, state_after, event_of, answers_to, state_then, events_of, Led, Stepped}
 
 module _ {P : Type 0} (l : Layout) (fits : List RuleRecord → Bool) (reading : Reading) (c : Pricing P) where
   -- ---- one call

@@ -1,15 +1,15 @@
 -- The rules that a history leads to are those that stand after it.
-use Rattle.std.proofs.Common.{◌≡◌, ℕ, Bool, true, false, cond, not, ◌||◌, eqb, ◌⊎◌, List, [], ◌∷◌, Ok, Err, filter, Result, sym, refl, ap, ◌∙◌, subst, inl, inr, ⊎_elim, arith}
-use Rattle.std.proofs.lemmas.Bool.{or_from, or_parts, eqb-true, eqb-false, eq-eqb, ne_eqb, not-true, not_from_false, both_ways, cases_Bool, cond-true}
-use Rattle.chart.specs.Layout.{Layout, any_of}
+use Rattle.std.proofs.Common.{◌≡◌, ℕ, Bool, true, false, not, eqb, ◌⊎◌, List, [], ◌∷◌, Ok, Err, sym, refl, ap, ◌∙◌, subst, inl, inr, ⊎_elim, arith}
+use Rattle.std.proofs.lemmas.Bool.{or_from, or_parts, eqb-false, ne_eqb, not-true, not_from_false, both_ways, cases_Bool, cond-true}
+use Rattle.chart.specs.Layout.{Layout}
 use Rattle.queries.specs.declared.node.Node.{Node}
 use Rattle.rules.specs.declared.view.RuleRecord.{RuleRecord}
 use Rattle.policy.specs.declared.refusal.BookRefusal.{BookRefusal}
 use Rattle.policy.specs.declared.refusal.BookRefusal.TheVariants.{NotInForce}
 use Rattle.policy.specs.Same.{Same}
-use Rattle.policy.specs.Books.{in_force, apart, rules_after, entry_answer, entry_list, withdrawal_answer, withdrawal_list}
+use Rattle.policy.specs.Books.{in_force, apart, rules_after, withdrawal_answer, withdrawal_list}
 use Rattle.policy.proofs.Orders.{same_sym}
-use Rattle.broker.specs.Histories.{Answer, Event, entered, withdrew, queried, Among, withdraws, withdrawn, Entered, Stands, Standing, next, replayed, Answered, AllAnswered, Reached}
+use Rattle.broker.specs.Histories.{Answer, Event, entered, withdrew, queried, Among, withdrawn, Stands, Standing, next, replayed, Answered, AllAnswered, Reached}
 use Rattle.broker.proofs.Members.{among_same, among_any, kept_among, among_kept, same_from_members}
 
 -- one event earlier: the rules after it, and the rules before it with it

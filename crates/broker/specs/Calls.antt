@@ -1,13 +1,12 @@
 -- What the calls of a broker keep, for every history that led to them.
-use Rattle.std.specs.Prelude.{◌≡◌, ℕ, Bool, true, ◌⊎◌, List, [], ◌∷◌, ◌++◌, is_ok, Ok, Err, Decides, Option, Result, ◌≢◌}
+use Rattle.std.specs.Prelude.{◌≡◌, ℕ, Bool, true, List, [], ◌∷◌, ◌++◌, is_ok, Decides, Option, Result, ◌≢◌}
 use Rattle.chart.specs.Layout.{Layout, all_of}
-use Rattle.profile.specs.declared.shape.Profile.{Profile}
 use Rattle.tariff.specs.Pricing.{Pricing}
 use Rattle.queries.specs.declared.node.Node.{Node}
 use Rattle.rules.specs.declared.view.RuleRecord.{RuleRecord}
 use Rattle.rules.specs.Rules.{well_formed}
 use Rattle.policy.specs.Same.{Same}
-use Rattle.policy.specs.Books.{in_force, entry_answer, entry_list, withdrawal_answer, withdrawal_list}
+use Rattle.policy.specs.Books.{entry_answer, entry_list, withdrawal_answer, withdrawal_list}
 use Rattle.assignments.specs.declared.parts.Step.{Step}
 use Rattle.assignments.specs.declared.parts.Place.{Place}
 use Rattle.assignments.specs.declared.parts.Release.{Release}

@@ -1,5 +1,5 @@
 -- Histories of calls, and which rules stand after one.
-use Rattle.std.specs.Prelude.{◌≡◌, ℕ, Bool, true, false, ◌||◌, ◌⊎◌, List, [], ◌∷◌, Ok, Err, Result, ◌==◌}
+use Rattle.std.specs.Prelude.{◌≡◌, ℕ, Bool, true, false, ◌⊎◌, List, [], ◌∷◌, Ok, Err, Result, ◌==◌}
 use Rattle.chart.specs.Layout.{Layout, any_of}
 use Rattle.queries.specs.declared.node.Node.{Node}
 use Rattle.rules.specs.declared.view.RuleRecord.{RuleRecord}

@@ -1,5 +1,5 @@
 -- Whole runs of calls, at one tariff and with one set of buffers.
-use Rattle.std.specs.Prelude.{◌≡◌, ℕ, Bool, List, [], ◌∷◌, ◌++◌, length, drop, Option, Result, nat_le}
+use Rattle.std.specs.Prelude.{◌≡◌, Bool, List, [], ◌∷◌, ◌++◌, length, drop, Option, Result, nat_le}
 use Rattle.chart.specs.Questions.{asked}
 use Rattle.chart.specs.Layout.{Layout}
 use Rattle.tariff.specs.Pricing.{Pricing}

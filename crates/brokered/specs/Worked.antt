@@ -5,7 +5,6 @@ use Rattle.chart.specs.Build.{link_answer}
 use Rattle.profile.specs.declared.shape.Profile.{Profile}
 use Rattle.rules.specs.declared.view.RuleRecord.{RuleRecord}
 use Rattle.policy.specs.Reading.{exact_reading}
-use Rattle.layers.specs.declared.denial.Denial.{Denial}
 use Rattle.layers.specs.Readings.{denied}
 use Rattle.composed.specs.Composed.{composed_reading}
 use Rattle.tariff.specs.Bytes.{byte_pricing}

@@ -1,13 +1,12 @@
 -- What an extended chart still keeps.
-use Rattle.std.proofs.Common.{◌≡◌, ℕ, ◌+◌, ◌<◌, ◌≤◌, Bool, true, false, cond, not, ◌&&◌, ◌||◌, ltb, leb, List, [], ◌∷◌, ◌++◌, map, length, take, set, Ok, Err, Option, Result, sym, refl, ap, ◌∙◌, subst, arith}
+use Rattle.std.proofs.Common.{◌≡◌, ℕ, ◌+◌, ◌<◌, ◌≤◌, Bool, true, false, cond, not, ltb, leb, List, [], ◌∷◌, ◌++◌, length, take, set, Ok, Err, Option, refl, ap, ◌∙◌, arith}
 use Rattle.std.specs.Option.{option_map}
-use Rattle.std.specs.List.{AllByRecursion as All, slice_get}
+use Rattle.std.specs.List.{AllByRecursion as All}
 use Rattle.std.proofs.lemmas.List.{take_more_set}
 use Rattle.std.proofs.lemmas.Bool.{and_parts, and_from, ltb-true, leb-true, lt-ltb}
 use Rattle.chart.specs.declared.parts.Attribute.{Attribute}
 use Rattle.chart.specs.declared.parts.Link.{Link}
 use Rattle.chart.specs.declared.parts.Grade.{Grade}
-use Rattle.chart.specs.declared.refusal.ChartRefusal.{ChartRefusal}
 use Rattle.chart.specs.declared.refusal.ChartRefusal.TheVariants.{Home, Widths, Limits, Ends, LinkLimit, LinkRepeated}
 use Rattle.chart.specs.Layout.{Layout, all_of, any_of, proper, crosses, differ, relation_in, server_known}
 use Rattle.chart.specs.Questions.{asked}

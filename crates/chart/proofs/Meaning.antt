@@ -1,14 +1,13 @@
 -- The laws of charts.
-use Rattle.std.proofs.Common.{◌≡◌, ℕ, zero, suc, ◌+◌, ◌<◌, ◌≤◌, Bool, true, false, cond, ◌||◌, eqb, ◌⊎◌, List, [], ◌∷◌, length, Some, None, Decides, Option, sym, refl, ap, ◌∙◌, inl, inr, arith}
+use Rattle.std.proofs.Common.{◌≡◌, ℕ, zero, suc, ◌+◌, ◌<◌, Bool, true, false, cond, ◌||◌, eqb, List, [], ◌∷◌, Some, None, Decides, Option, sym, ap, ◌∙◌, arith}
 use Rattle.std.specs.Option.{option_map}
 use Rattle.std.specs.List.{slice_get}
-use Rattle.std.proofs.lemmas.Bool.{or_cases, or_left, or_right, eqb-true, eqb-false, eq-eqb, ne_eqb, cases_eq, cases_Bool, false≢true}
-use Rattle.sets.specs.declared.small_set.SmallSet.{SmallSet}
-use Rattle.sets.specs.Sets.{has, none, single, union}
+use Rattle.std.proofs.lemmas.Bool.{eqb-true, eq-eqb, ne_eqb, false≢true}
+use Rattle.sets.specs.Sets.{has, single, union}
 use Rattle.sets.proofs.Sets.{union_has, single_has}
 use Rattle.sets.proofs.Bits.{bit_none}
 use Rattle.chart.specs.declared.parts.Attribute.{Attribute}
-use Rattle.chart.specs.Layout.{Layout, relation_of, relation_in}
+use Rattle.chart.specs.Layout.{Layout, relation_of}
 use Rattle.chart.specs.Lookup.{places, attributes_of}
 use Rattle.chart.specs.Sound.{Laws}
 use Rattle.chart.proofs.Sound.{chart_sound}

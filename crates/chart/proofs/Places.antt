@@ -1,9 +1,9 @@
 -- The places of the elements that pass, collected one by one.
-use Rattle.std.proofs.Common.{◌≡◌, ℕ, ◌+◌, ◌<◌, ◌≤◌, Bool, true, false, cond, List, [], ◌∷◌, length, get_or, drop, sym, refl, ap, ◌∙◌}
+use Rattle.std.proofs.Common.{◌≡◌, ℕ, ◌+◌, ◌<◌, ◌≤◌, Bool, true, false, cond, List, length, get_or, drop, sym, ap, ◌∙◌}
 use Rattle.std.proofs.lemmas.List.{at_drop_more, at_drop_all}
 use Rattle.std.proofs.lemmas.Bool.{cond-true, cond-false}
 use Rattle.sets.specs.declared.small_set.SmallSet.{SmallSet}
-use Rattle.sets.specs.Sets.{none, single, union}
+use Rattle.sets.specs.Sets.{single, union}
 use Rattle.sets.proofs.Sets.{union_assoc, union_none}
 use Rattle.chart.specs.Lookup.{places}
 

@@ -1,14 +1,13 @@
 -- What is known of the parts of a chart.
-use Rattle.std.proofs.Common.{◌≡◌, ℕ, zero, suc, ◌<◌, ◌≤◌, Bool, true, false, not, ◌&&◌, eqb, ltb, List, [], ◌∷◌, ◌++◌, length, take, is_some, IfSome, Some, None, Option, sym, refl, ap, ◌∙◌, inl, inr, arith}
+use Rattle.std.proofs.Common.{◌≡◌, ℕ, zero, suc, ◌<◌, Bool, true, eqb, ltb, List, [], ◌∷◌, length, is_some, IfSome, Some, None, Option, sym, refl, ap, ◌∙◌, inl, inr, arith}
 use Rattle.std.specs.Option.{option_map}
 use Rattle.std.specs.List.{AllByRecursion as All, slice_get}
 use Rattle.std.proofs.lemmas.List.{length-take}
 use Rattle.std.proofs.lemmas.Option.{slice_get_past}
 use Rattle.std.proofs.lemmas.Bool.{and_parts, ltb-true, eq-eqb, not-true, both_ways, false≢true, cases_lt}
 use Rattle.chart.specs.declared.parts.Attribute.{Attribute}
-use Rattle.chart.specs.declared.parts.Link.{Link}
 use Rattle.chart.specs.declared.state.Chart.{Chart}
-use Rattle.chart.specs.Layout.{Layout, all_of, proper, crosses, differ, relation_in}
+use Rattle.chart.specs.Layout.{all_of, proper, crosses, differ, relation_in}
 use Rattle.chart.specs.Charts.{layout}
 use Rattle.chart.specs.Sound.{Sound}
 

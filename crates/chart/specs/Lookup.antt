@@ -7,7 +7,7 @@ use Rattle.sets.specs.Sets.{none, single, union, subset, below}
 use Rattle.chart.specs.declared.parts.Attribute.{Attribute}
 use Rattle.chart.specs.declared.parts.Link.{Link}
 use Rattle.chart.specs.declared.parts.Grade.{Grade}
-use Rattle.chart.specs.declared.parts.Grade.TheVariants.{Quay, Leased, Public}
+use Rattle.chart.specs.declared.parts.Grade.TheVariants.{Public}
 use Rattle.chart.specs.Layout.{Layout, server_known}
 
 -- the server of a relation; none where the relation is not known

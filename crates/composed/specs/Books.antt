@@ -1,5 +1,5 @@
 -- A composed book's table after a rule comes or leaves.
-use Rattle.std.specs.Prelude.{◌≡◌, ℕ, zero, suc, ◌<◌, ◌≤◌, Bool, true, false, cond, not, ◌&&◌, ◌||◌, leb, ◌⊎◌, List, [], ◌∷◌, length, Some, None, filter, Option, ◌==◌, nat_le, refl}
+use Rattle.std.specs.Prelude.{◌≡◌, ℕ, zero, suc, ◌<◌, ◌≤◌, Bool, true, false, cond, not, ◌&&◌, leb, List, [], ◌∷◌, length, filter, Option, ◌==◌, nat_le, refl}
 use Rattle.std.proofs.Common.{sym, ap, subst, ◌∙◌, inl, inr, arith}
 use Rattle.std.proofs.lemmas.Bool.{and_from, and_parts, and_left, and_right, le-leb, lt-leb, leb-true, or_cases, or_left, or_right}
 use Rattle.chart.specs.declared.state.Chart.{Chart}
@@ -15,10 +15,9 @@ use Rattle.members.specs.Table.{Holds}
 use Rattle.members.proofs.Exact.{members_le, laws_hold}
 use Rattle.policy.specs.Same.{Same}
 use Rattle.policy.specs.Reading.{granted}
-use Rattle.policy.specs.Books.{in_force, apart, withdrawal_list}
-use Rattle.policy.proofs.Orders.{same_sym, same_length, same_all, same_apart}
+use Rattle.policy.specs.Books.{apart, withdrawal_list}
+use Rattle.policy.proofs.Orders.{same_sym, same_length}
 use Rattle.books.specs.Slots.{held}
-use Rattle.books.proofs.Held.{apart_more}
 use Rattle.composed.specs.Composed.{composed_members, composed_fits}
 use Rattle.composed.specs.Kept.{Kept}
 use Rattle.composed.specs.Lawful.{granted_within}

@@ -1,8 +1,8 @@
 -- The composed reading keeps the laws of a policy: the term that the book gives for `lawful`, with what it needs.
-use Rattle.std.specs.Prelude.{◌≡◌, ℕ, ◌<◌, ◌≤◌, Bool, true, false, cond, not, ◌&&◌, ◌||◌, eqb, leb, ◌⊎◌, List, [], ◌∷◌, length, refl}
+use Rattle.std.specs.Prelude.{◌≡◌, ℕ, ◌<◌, Bool, true, false, ◌||◌, ◌⊎◌, List, [], ◌∷◌, length, refl}
 use Rattle.std.proofs.Common.{sym, ap, subst, ◌∙◌, inl, inr}
 use Rattle.std.proofs.lemmas.Bool.{eqb-true, and_parts, or_cases, or_left, or_right, cases_Bool, both_ways, false≢true, lt-ltb, cases_lt}
-use Rattle.sets.specs.Sets.{union, single, subset, same, below, none}
+use Rattle.sets.specs.Sets.{union, single, subset, below}
 use Rattle.sets.proofs.Bits.{bit_low}
 use Rattle.sets.proofs.Sets.{union_least, has_subset, single_has}
 use Rattle.chart.specs.declared.state.Chart.{Chart}
@@ -12,12 +12,11 @@ use Rattle.chart.specs.Lookup.{attributes_known, links_known}
 use Rattle.profile.specs.declared.shape.Profile.{Profile}
 use Rattle.rules.specs.declared.view.View.{View}
 use Rattle.rules.specs.declared.view.RuleRecord.{RuleRecord}
-use Rattle.rules.specs.Rules.{well_formed, path_joins}
-use Rattle.rules.specs.Trees.{tree}
-use Rattle.members.specs.Members.{same_view, among, Member, listed, composed, members}
+use Rattle.rules.specs.Rules.{well_formed}
+use Rattle.members.specs.Members.{same_view, among, Member, listed, composed}
 use Rattle.members.specs.Compose.{composes, composition}
 use Rattle.members.specs.Laws.{Within}
-use Rattle.members.proofs.Views.{same_view_is, is_same_view, iff_same, among_here}
+use Rattle.members.proofs.Views.{same_view_is, iff_same, among_here}
 use Rattle.members.proofs.Exact.{members_sound, members_more}
 use Rattle.members.proofs.Rank.{never_past}
 use Rattle.policy.specs.Same.{Same, done, keep, swap, chain}

@@ -1,5 +1,5 @@
 -- The loose reading keeps the laws of a policy.
-use Rattle.std.specs.Prelude.{◌≡◌, Bool, true, false, ◌&&◌, List, Some, None, Option, refl}
+use Rattle.std.specs.Prelude.{◌≡◌, Bool, true, ◌&&◌, Some, None, Option, refl}
 use Rattle.std.proofs.Common.{ap}
 use Rattle.std.proofs.lemmas.Bool.{and_left}
 use Rattle.chart.specs.declared.state.Chart.{Chart}

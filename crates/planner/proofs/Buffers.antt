@@ -1,5 +1,5 @@
 -- The buffers after a query: what is read from them.
-use Rattle.std.proofs.Common.{◌≡◌, ℕ, zero, suc, ◌+◌, ◌*◌, ◌/◌, ◌%◌, ◌<◌, ◌≤◌, Bool, cond, ltb, ◌⊎◌, List, [], ◌∷◌, ◌++◌, length, get_or, None, Option, sym, refl, ap, ◌∙◌, ap₂, inl, inr, ⊎_elim, arith}
+use Rattle.std.proofs.Common.{◌≡◌, ℕ, zero, suc, ◌*◌, ◌/◌, ◌%◌, ◌<◌, ◌≤◌, Bool, cond, ltb, ◌⊎◌, List, [], ◌∷◌, ◌++◌, length, get_or, None, Option, sym, refl, ap, ◌∙◌, ap₂, inl, inr, arith}
 use Rattle.std.specs.List.{AllByRecursion as All}
 use Rattle.std.proofs.lemmas.Nat.{div-add-mod', div_below, mod_below}
 use Rattle.std.proofs.lemmas.List.FromFn.{get_or-map-range_with_len, fill_by_all}
@@ -12,14 +12,13 @@ use Rattle.queries.specs.declared.node.Node.TheVariants.{Leaf, Project, Filter, 
 use Rattle.queries.specs.Trees.{between}
 use Rattle.queries.specs.Flat.{node, operands, tree_of}
 use Rattle.queries.specs.Questions.{node_profile}
-use Rattle.assignments.specs.declared.mode.Mode.{Mode}
 use Rattle.assignments.specs.declared.mode.Mode.TheVariants.{Local}
 use Rattle.assignments.specs.declared.parts.Step.{Step}
 use Rattle.assignments.specs.declared.parts.Place.{Place}
 use Rattle.assignments.specs.Modes.{releases}
 use Rattle.assignments.specs.Assignments.{Steps, step}
 use Rattle.assignments.specs.Table.{place}
-use Rattle.search.specs.Rows.{place_at, Filled}
+use Rattle.search.specs.Rows.{Filled}
 use Rattle.planner.specs.Plans.{at_step, plan_after, node_releases, entailed}
 use Rattle.planner.specs.Queries.{table_filled}
 

@@ -1,5 +1,5 @@
 -- What is found for the root says of the query's safe assignments what it should.
-use Rattle.std.proofs.Common.{◌≡◌, ℕ, ◌+◌, ◌-◌, ◌<◌, ◌≤◌, Bool, true, false, List, ◌++◌, length, take, drop, Some, None, Option, sym, refl, ap, ◌∙◌, subst, arith}
+use Rattle.std.proofs.Common.{◌≡◌, ℕ, ◌-◌, ◌<◌, ◌≤◌, Bool, true, List, length, take, drop, Some, None, Option, sym, refl, ap, ◌∙◌, subst, arith}
 use Rattle.std.proofs.lemmas.List.{take_at}
 use Rattle.chart.specs.Layout.{Layout}
 use Rattle.chart.specs.Sound as chart
@@ -13,7 +13,7 @@ use Rattle.assignments.specs.declared.parts.Step.{Step}
 use Rattle.assignments.specs.declared.parts.Place.{Place}
 use Rattle.assignments.specs.declared.parts.Release.{Release}
 use Rattle.assignments.specs.Modes.{allowed}
-use Rattle.assignments.specs.Assignments.{Steps, Way, executor, cost}
+use Rattle.assignments.specs.Assignments.{Steps, Way}
 use Rattle.assignments.specs.Cheapest.{cheapest}
 use Rattle.assignments.specs.Table.{place, recorded, chosen}
 use Rattle.assignments.specs.Stands.{Stands}
@@ -24,13 +24,11 @@ use Rattle.assignments.proofs.Stands.{executor_below, recorded_reaches, stands}
 use Rattle.assignments.proofs.Chosen.{chosen_none, chosen_some}
 use Rattle.assignments.proofs.Nodes.{tree_below, tree_distinct}
 use Rattle.search.specs.declared.root.Seat.{Seat}
-use Rattle.search.specs.declared.run.Outcome.{Outcome}
 use Rattle.search.specs.declared.run.Outcome.TheVariants.{Seated, Blocked}
-use Rattle.search.specs.Rows.{place_at, Filled}
+use Rattle.search.specs.Rows.{Filled}
 use Rattle.search.specs.Root.{seat, seat_of, empty_row, first_of}
 use Rattle.search.specs.Outcomes.{seated_or, outcome_of}
 use Rattle.search.proofs.Empty.{all_empty, empty_at, some_at, FirstPasses, first_passes}
-use Rattle.planner.specs.declared.answer.Planned.{Planned}
 use Rattle.planner.specs.Plans.{at_step, plan_after, entailed, releases_after}
 use Rattle.planner.specs.Queries.{root, assigned, released}
 use Rattle.planner.specs.Judged.{NoneSafe, PlacesStand, BlockedAt, PlannedBy}

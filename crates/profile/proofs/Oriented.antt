@@ -1,16 +1,15 @@
 -- What orienting a link means.
-use Rattle.std.proofs.Common.{◌≡◌, ℕ, Bool, true, false, cond, ◌&&◌, eqb, ◌⊎◌, Some, None, Option, sym, refl, ap, ◌∙◌, subst, inl, inr, arith}
+use Rattle.std.proofs.Common.{◌≡◌, ℕ, Bool, true, false, cond, ◌&&◌, ◌⊎◌, Some, None, Option, sym, refl, ap, ◌∙◌, inl, inr, arith}
 use Rattle.std.specs.Option.{option_map}
 use Rattle.std.specs.List.{slice_get}
 use Rattle.std.proofs.lemmas.Bool.{and_parts, and_from, both_ways, eq-eqb}
 use Rattle.sets.specs.declared.small_set.SmallSet.{SmallSet}
-use Rattle.sets.specs.Sets.{has, single, subset}
+use Rattle.sets.specs.Sets.{has, subset}
 use Rattle.sets.specs.Laws.{Within}
 use Rattle.sets.proofs.Sets.{subset_has, has_subset, single_has}
 use Rattle.chart.specs.declared.parts.Link.{Link}
-use Rattle.chart.specs.Layout.{Layout}
-use Rattle.chart.specs.Lookup.{ends, ends_of}
-use Rattle.profile.specs.Joins.{turned, turned_if, orient_answer}
+use Rattle.chart.specs.Lookup.{ends}
+use Rattle.profile.specs.Joins.{turned, turned_if}
 use Rattle.profile.specs.Laws.{Fits, Apart, Laws}
 
 -- both ends shown, each on its side

@@ -5,9 +5,7 @@ use Rattle.sets.specs.Sets.{has}
 use Rattle.sets.specs.Laws.{Within}
 use Rattle.chart.specs.Layout.{Layout}
 use Rattle.chart.specs.Lookup.{ends_of}
-use Rattle.profile.specs.declared.join.Join.{Join}
-use Rattle.profile.specs.declared.join.Side.TheVariants.{Left, Right}
-use Rattle.profile.specs.Joins.{orient_answer, column, reply, joined}
+use Rattle.profile.specs.Joins.{orient_answer}
 
 -- a and b are the two ends of a link; the left operand shows all of a, the right operand all of b
 pub record Fits (ends : SmallSet × SmallSet) (left right a b : SmallSet) : Type 0 where

@@ -1,5 +1,5 @@
 -- What is so of a tree that passed its questions.
-use Rattle.std.proofs.Common.{◌≡◌, ℕ, zero, suc, ◌+◌, ◌-◌, ◌<◌, ◌≤◌, Bool, true, false, cond, not, ◌&&◌, ◌||◌, eqb, ltb, leb, ◌⊎◌, List, [], ◌∷◌, ◌++◌, length, get_or, take, is_some, Some, None, Ok, Err, Option, sym, refl, ap, ◌∙◌, inl, inr, ⊎_elim, arith}
+use Rattle.std.proofs.Common.{◌≡◌, ℕ, zero, suc, ◌+◌, ◌-◌, ◌<◌, ◌≤◌, Bool, true, false, not, ◌&&◌, ◌||◌, eqb, ltb, leb, ◌⊎◌, List, [], ◌∷◌, ◌++◌, length, is_some, Some, None, Ok, Option, sym, refl, ap, ◌∙◌, inl, inr, ⊎_elim, arith}
 use Rattle.std.specs.List.{AllByRecursion as All}
 use Rattle.std.proofs.lemmas.Bool.{cases_order, and_parts, or_cases, or_left, or_right, or_parts, leb-true, eqb-true, eqb-false, not-true, both_ways, false≢true}
 use Rattle.chart.specs.Layout.{Layout, all_of, any_of}
@@ -10,7 +10,7 @@ use Rattle.queries.specs.declared.node.Node.TheVariants.{Leaf, Project, Filter, 
 use Rattle.queries.specs.declared.refusal.TreeRefusal.{TreeRefusal}
 use Rattle.queries.specs.declared.refusal.TreeRefusal.TheVariants.{Count}
 use Rattle.queries.specs.Flat.{node, operands}
-use Rattle.queries.specs.Questions.{uses, used_by, stands_in, operands_fit, different, kind_fits, node_profile, questions_at, questions_from, uses_from, tree_questions, count_fits, tree_answer}
+use Rattle.queries.specs.Questions.{uses, used_by, stands_in, operands_fit, different, kind_fits, node_profile, questions_from, uses_from, tree_questions, count_fits, tree_answer}
 use Rattle.queries.specs.Sound.{Sound, Placed, Apart}
 use Rattle.queries.proofs.Seen.{used_more}
 use Rattle.queries.proofs.Turns.{fit_earlier}

@@ -1,7 +1,7 @@
 -- The questions of one node, as they are asked by the sets and profiles kept of those before it.
-use Rattle.std.proofs.Common.{◌≡◌, ℕ, zero, suc, ◌+◌, ◌-◌, ◌<◌, ◌≤◌, Bool, true, false, cond, not, ◌&&◌, ◌||◌, eqb, ltb, ◌≢◌, ◌⊎◌, List, [], ◌∷◌, ◌++◌, length, get_or, set, is_some, Some, None, Ok, Err, Option, Result, sym, refl, ap, ◌∙◌, ap₂, inl, inr, ⊎_elim, arith, below_more}
+use Rattle.std.proofs.Common.{◌≡◌, ℕ, suc, ◌+◌, ◌-◌, ◌<◌, ◌≤◌, Bool, true, false, cond, not, ◌&&◌, ltb, ◌≢◌, ◌⊎◌, List, [], ◌∷◌, ◌++◌, length, get_or, set, is_some, Ok, Err, sym, refl, ap, ◌∙◌, ap₂, inl, inr, arith, below_more}
 use Rattle.std.proofs.lemmas.List.{get_or-set_same, get_or-set_other}
-use Rattle.std.specs.List.{AllByRecursion as All, slice_get}
+use Rattle.std.specs.List.{AllByRecursion as All}
 use Rattle.std.proofs.lemmas.Option.{slice_get_past}
 use Rattle.std.proofs.lemmas.Bool.{cases_lt, and_parts, ltb-true, true≢false, false≢true}
 use Rattle.sets.specs.declared.small_set.SmallSet.{SmallSet}
@@ -19,9 +19,9 @@ use Rattle.queries.specs.declared.node.Node.{Node}
 use Rattle.queries.specs.declared.node.Node.TheVariants.{Leaf, Project, Filter, Join}
 use Rattle.queries.specs.declared.refusal.TreeRefusal.{TreeRefusal}
 use Rattle.queries.specs.declared.refusal.TreeRefusal.TheVariants.{Operand}
-use Rattle.queries.specs.Trees.{Tree, profile_of, between}
+use Rattle.queries.specs.Trees.{profile_of, between}
 use Rattle.queries.specs.Flat.{node, operands, grow, tree_of, profile_by, blank}
-use Rattle.queries.specs.Questions.{uses, is_leaf, used_by, stands_in, operands_fit, different, attributes_fit, kind_fits, kind_refusal, node_questions, node_profile, questions_at, questions_from, answered}
+use Rattle.queries.specs.Questions.{used_by, stands_in, operands_fit, different, attributes_fit, kind_fits, kind_refusal, node_questions, node_profile, questions_at, questions_from, answered}
 use Rattle.queries.proofs.Flat.{tree_step}
 use Rattle.queries.proofs.Seen.{operands_same}
 

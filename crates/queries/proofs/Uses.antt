@@ -1,7 +1,6 @@
 -- The question whether each node is used.
-use Rattle.std.proofs.Common.{◌≡◌, ℕ, zero, suc, ◌+◌, ◌-◌, ◌<◌, ◌≤◌, Bool, true, false, cond, List, [], ◌∷◌, ◌++◌, length, IfOk, Ok, Err, Result, sym, refl, ap, ◌∙◌, arith}
+use Rattle.std.proofs.Common.{◌≡◌, ℕ, zero, suc, ◌+◌, ◌-◌, ◌<◌, ◌≤◌, Bool, true, false, ◌∷◌, IfOk, Ok, Err, Result, sym, refl, ap, ◌∙◌, arith}
 use Rattle.std.proofs.lemmas.Bool.{cond-true, cond-false}
-use Rattle.queries.specs.declared.refusal.TreeRefusal.{TreeRefusal}
 use Rattle.queries.specs.declared.refusal.TreeRefusal.TheVariants.{Unused}
 use Rattle.queries.specs.Questions.{uses_from, answered}
 

@@ -1,5 +1,5 @@
 -- A query as a list of nodes, operands before users, and the tree that each node is the root of.
-use Rattle.std.specs.Prelude.{ℕ, zero, suc, Bool, cond, List, [], ◌∷◌, ◌==◌, slice_index_or}
+use Rattle.std.specs.Prelude.{ℕ, zero, suc, cond, List, [], ◌∷◌, ◌==◌, slice_index_or}
 use Rattle.queries.specs.declared.node.Node.{Node}
 use Rattle.queries.specs.declared.node.Node.TheVariants.{Leaf, Project, Filter, Join}
 use Rattle.sets.specs.Sets.{none}

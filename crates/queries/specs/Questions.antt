@@ -1,6 +1,5 @@
 -- The questions that a query tree has to pass on a chart.
-use Rattle.std.specs.Prelude.{ℕ, zero, suc, ◌+◌, ◌-◌, Bool, true, false, not, ◌&&◌, List, [], ◌∷◌, ◌++◌, map, length, take, is_some, Ok, Err, Result, ◌==◌, nat_eq, nat_le, nat_lt}
-use Rattle.std.specs.List.{range_with_len}
+use Rattle.std.specs.Prelude.{ℕ, zero, suc, ◌+◌, ◌-◌, Bool, true, false, not, ◌&&◌, List, [], ◌∷◌, ◌++◌, length, take, is_some, Ok, Err, Result, ◌==◌, nat_eq, nat_le, nat_lt}
 use Rattle.sets.specs.declared.small_set.SmallSet.{SmallSet}
 use Rattle.sets.specs.Sets.{none, same, subset}
 use Rattle.chart.specs.Questions.{asked}

@@ -1,5 +1,5 @@
 -- Query trees, and the profile of each one's result.
-use Rattle.std.specs.Prelude.{ℕ, Bool, ◌||◌, Option, ◌==◌}
+use Rattle.std.specs.Prelude.{ℕ, Bool, ◌||◌, ◌==◌}
 use Rattle.std.specs.Option.{unwrap_or}
 use Rattle.sets.specs.declared.small_set.SmallSet.{SmallSet}
 use Rattle.sets.specs.Sets.{none, single}

@@ -1,8 +1,8 @@
 -- The union of a function over the members of a set, collected one by one.
-use Rattle.std.proofs.Common.{◌≡◌, ℕ, ◌+◌, ◌<◌, ◌≤◌, true, false, cond, ◌⊎◌, List, [], ◌∷◌, sym, ap, ◌∙◌, inl, inr}
+use Rattle.std.proofs.Common.{◌≡◌, ℕ, ◌+◌, ◌<◌, ◌≤◌, true, false, ◌⊎◌, ◌∷◌, sym, ap, ◌∙◌, inl, inr}
 use Rattle.std.proofs.lemmas.Bool.{cond-true, cond-false}
 use Rattle.sets.specs.declared.small_set.SmallSet.{SmallSet}
-use Rattle.sets.specs.Sets.{has, none, union, members_from}
+use Rattle.sets.specs.Sets.{has, union, members_from}
 use Rattle.sets.proofs.Sets.{union_assoc, union_none, members_step, members_past}
 use Rattle.rules.specs.Relations.{gather}
 

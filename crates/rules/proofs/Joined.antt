@@ -1,7 +1,7 @@
 -- The question about a path, by what it means.
-use Rattle.std.proofs.Common.{◌≡◌, ℕ, ◌<◌, true, ltb, length, Decides, sym, ap, ◌∙◌}
+use Rattle.std.proofs.Common.{length, Decides, sym, ◌∙◌}
 use Rattle.std.proofs.lemmas.Bool.{and_parts, and_from, ltb-true, lt-ltb}
-use Rattle.sets.specs.Sets.{has, below}
+use Rattle.sets.specs.Sets.{below}
 use Rattle.sets.proofs.Bits.{bit_low}
 use Rattle.sets.proofs.Sets.{subset_has, has_subset}
 use Rattle.chart.specs.declared.state.Chart.{Chart}

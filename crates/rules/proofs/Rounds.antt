@@ -1,5 +1,5 @@
 -- Rounds of spreading over a path.
-use Rattle.std.proofs.Common.{◌≡◌, ℕ, zero, suc, ◌+◌, ◌-◌, ◌<◌, ◌≤◌, sym, refl, ap, ◌∙◌, arith}
+use Rattle.std.proofs.Common.{◌≡◌, ℕ, zero, suc, ◌+◌, ◌-◌, ◌<◌, ◌≤◌, refl, ap, ◌∙◌, arith}
 use Rattle.sets.specs.declared.small_set.SmallSet.{SmallSet}
 use Rattle.chart.specs.Layout.{Layout}
 use Rattle.rules.specs.Trees.{spread, rounds}

@@ -1,5 +1,5 @@
 -- The questions that a rule has to pass on a chart.
-use Rattle.std.specs.Prelude.{ℕ, Bool, not, ◌&&◌, List, [], ◌∷◌, Result, nat_le}
+use Rattle.std.specs.Prelude.{Bool, not, ◌&&◌, List, [], ◌∷◌, Result, nat_le}
 use Rattle.sets.specs.Sets.{none, same}
 use Rattle.chart.specs.Questions.{asked}
 use Rattle.chart.specs.Layout.{Layout, all_of, server_known}

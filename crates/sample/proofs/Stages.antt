@@ -1,5 +1,5 @@
 -- The sample chart, one call after another.
-use Rattle.std.proofs.Common.{◌≡◌, ℕ, List, [], ◌∷◌, Ok, Err, Result, ap, ◌∙◌, arith}
+use Rattle.std.proofs.Common.{◌≡◌, ℕ, [], ◌∷◌, Ok, Err, Result, ap, ◌∙◌, arith}
 use Rattle.chart.specs.declared.refusal.ChartRefusal.{ChartRefusal}
 use Rattle.chart.specs.Layout.{Layout}
 use Rattle.chart.specs.Build.{bare, with_relation, with_link}

@@ -1,5 +1,5 @@
 -- The table, row by row.
-use Rattle.std.proofs.Common.{◌≡◌, ℕ, ◌+◌, ◌*◌, ◌<◌, ◌≤◌, Bool, true, ◌⊎◌, List, [], ◌∷◌, length, get_or, is_some, Some, None, Option, sym, refl, ap, ◌∙◌, subst, ap₂, inl, inr, ⊎_elim, arith}
+use Rattle.std.proofs.Common.{◌≡◌, ℕ, ◌+◌, ◌*◌, ◌<◌, Bool, List, [], ◌∷◌, is_some, Option, sym, refl, ap, ◌∙◌, ap₂, ⊎_elim, arith}
 use Rattle.std.specs.List.{AllByRecursion as All}
 use Rattle.std.proofs.lemmas.Bool.{cases_lt}
 use Rattle.chart.specs.Layout.{Layout}
@@ -11,7 +11,7 @@ use Rattle.queries.specs.declared.node.Node.TheVariants.{Leaf, Project, Filter, 
 use Rattle.queries.specs.Trees.{Tree, between}
 use Rattle.queries.specs.Flat.{node, operands, grow, tree_of}
 use Rattle.queries.specs.Questions.{node_profile}
-use Rattle.queries.specs.Sound.{Sound, Placed}
+use Rattle.queries.specs.Sound.{Placed}
 use Rattle.queries.proofs.Flat.{tree_step}
 use Rattle.assignments.specs.declared.parts.Place.{Place}
 use Rattle.assignments.specs.Table.{best, place}

@@ -1,5 +1,5 @@
 -- What a filled table says of the root.
-use Rattle.std.proofs.Common.{◌≡◌, ℕ, ◌-◌, ◌<◌, Bool, List, length, Option, sym, refl, ap, ◌∙◌, ap₂, arith}
+use Rattle.std.proofs.Common.{◌≡◌, ℕ, ◌-◌, ◌<◌, Bool, List, length, Option, ap, ap₂, arith}
 use Rattle.chart.specs.Layout.{Layout}
 use Rattle.profile.specs.declared.shape.Profile.{Profile}
 use Rattle.tariff.specs.Pricing.{Pricing}

@@ -1,5 +1,5 @@
 -- A row of the table, place by place.
-use Rattle.std.proofs.Common.{◌≡◌, ℕ, ◌+◌, ◌*◌, ◌<◌, ◌≤◌, Bool, ◌≢◌, ◌⊎◌, List, [], ◌∷◌, length, get_or, set, Some, None, Option, sym, refl, ap, ◌∙◌, ap₂, inl, inr, arith, length-set, below_more}
+use Rattle.std.proofs.Common.{◌≡◌, ℕ, ◌+◌, ◌*◌, ◌<◌, ◌≤◌, Bool, List, [], ◌∷◌, length, get_or, set, None, Option, refl, ap, ◌∙◌, ap₂, arith, length-set, below_more}
 use Rattle.std.specs.List.{AllByRecursion as All}
 use Rattle.std.proofs.lemmas.List.{get_or-set_same, get_or-set_other}
 use Rattle.std.proofs.lemmas.Nat.{mul-le}
@@ -15,7 +15,6 @@ use Rattle.assignments.specs.declared.parts.Place.{Place}
 use Rattle.assignments.specs.Table.{kept, best}
 use Rattle.assignments.proofs.Options.{best_like}
 use Rattle.search.specs.Rows.{place_at, leaf_place, place_from, Row}
-use Rattle.search.specs.declared.rows.Source.{Source}
 use Rattle.search.specs.declared.rows.Source.TheVariants.{Home, Operand, Options}
 use Rattle.search.specs.declared.options.Operands.{Operands}
 use Rattle.search.specs.declared.sends.Sends.{Sends}

@@ -1,12 +1,11 @@
 -- What the search finds for a whole query.
-use Rattle.std.specs.Prelude.{◌≡◌, ℕ, ◌-◌, ◌*◌, ◌<◌, Bool, List, [], ◌∷◌, length, Some, None, Ok, Err, Option, Result, nat_le, slice_index_or}
+use Rattle.std.specs.Prelude.{◌≡◌, ℕ, ◌-◌, ◌*◌, ◌<◌, Bool, List, ◌∷◌, length, Some, None, Ok, Err, Option, Result, nat_le, slice_index_or}
 use Rattle.chart.specs.Layout.{Layout}
 use Rattle.profile.specs.declared.shape.Profile.{Profile}
 use Rattle.tariff.specs.Pricing.{Pricing}
 use Rattle.queries.specs.declared.node.Node.{Node}
 use Rattle.queries.specs.declared.refusal.TreeRefusal.{TreeRefusal}
 use Rattle.queries.specs.declared.refusal.TreeRefusal.TheVariants.{Count, Room}
-use Rattle.queries.specs.Trees.{Tree}
 use Rattle.queries.specs.Flat.{tree_of, blank}
 use Rattle.queries.specs.Questions.{count_fits, tree_questions, answered, node_profile}
 use Rattle.queries.specs.Sound.{Sound}

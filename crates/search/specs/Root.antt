@@ -1,5 +1,5 @@
 -- The choice of an executor for a whole query, and the lowest node that has none.
-use Rattle.std.specs.Prelude.{ℕ, zero, suc, ◌+◌, Bool, true, cond, not, ◌&&◌, is_some, Some, None, Option}
+use Rattle.std.specs.Prelude.{ℕ, zero, suc, ◌+◌, Bool, true, cond, not, ◌&&◌, is_some, Option}
 use Rattle.assignments.specs.declared.parts.Place.{Place}
 use Rattle.assignments.specs.Table.{seated}
 use Rattle.search.specs.declared.root.Seat.{Seat}

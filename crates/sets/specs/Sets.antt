@@ -1,5 +1,5 @@
 -- Sets of numbers below 64. A set is known by `has`; the laws below it say so (Laws).
-use Rattle.std.specs.Prelude.{ℕ, ◌+◌, ◌-◌, ◌^◌, Bool, true, false, cond, List, [], ◌∷◌, length, Some, None, Option, ◌==◌, bit_and, bit_or, nat_le, nat_lt}
+use Rattle.std.specs.Prelude.{ℕ, ◌+◌, ◌-◌, ◌^◌, Bool, cond, List, [], ◌∷◌, length, Some, None, Option, ◌==◌, bit_and, bit_or, nat_le, nat_lt}
 use Rattle.sets.specs.declared.small_set.SmallSet.{SmallSet}
 use Rattle.sets.specs.Bits.{bit, rising}
 

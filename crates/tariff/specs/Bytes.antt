@@ -4,7 +4,6 @@ use Rattle.sets.specs.declared.small_set.SmallSet.{SmallSet}
 use Rattle.sets.specs.Sets.{members}
 use Rattle.chart.specs.Layout.{Layout}
 use Rattle.chart.specs.Lookup.{width_of}
-use Rattle.profile.specs.declared.shape.Profile.{Profile}
 use Rattle.tariff.specs.Pricing.{Pricing}
 
 -- a price stops at 4,294,967,295 instead of passing it

@@ -4,7 +4,6 @@ use Rattle.chart.specs.declared.parts.Grade.{Grade}
 use Rattle.chart.specs.declared.parts.Grade.TheVariants.{Quay, Leased, Public}
 use Rattle.chart.specs.Layout.{Layout}
 use Rattle.chart.specs.Lookup.{grade_of}
-use Rattle.profile.specs.declared.shape.Profile.{Profile}
 use Rattle.tariff.specs.Pricing.{Pricing}
 
 abbrev pub no_grade : Option Grade

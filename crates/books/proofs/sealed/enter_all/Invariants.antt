@@ -1,4 +1,4 @@
-use Rattle.std.proofs.Common.{◌≡◌, [], drop}
+use Rattle.std.proofs.Common.{◌≡◌, drop}
 use Rattle.chart.specs.Charts.{layout}
 use Rattle.books.specs.Slots.{held}
 use Rattle.books.specs.Sealed.{entered_from, sealed_answer}

@@ -1,5 +1,5 @@
-use Rattle.std.proofs.Common.{◌≡◌, not, length, drop, sym, refl, ap, ◌∙◌, arith}
-use Rattle.books.specs.Slots.{held, place_of, is_free}
+use Rattle.std.proofs.Common.{not, length, sym, ap, ◌∙◌, arith}
+use Rattle.books.specs.Slots.{place_of, is_free}
 use Rattle.books.proofs.Held.{place_start, place_found, place_on, place_none, found_free, passed_taken, held_done}
 use Rattle.books.proofs.slots.first_free.Goals as goal
 

@@ -1,6 +1,5 @@
 use Rattle.std.proofs.Common.{◌≡◌, ℕ, ◌+◌, length, drop}
 use Rattle.std.specs.Option.{option_map}
-use Rattle.policy.specs.Books.{in_force}
 use Rattle.books.specs.Slots.{held, place_of, is_free}
 use Rattle.books.proofs.slots.first_free.Given as goal
 

@@ -1,4 +1,4 @@
-use Rattle.std.proofs.Common.{◌≡◌, Some, None, sym, refl, ap, ◌∙◌}
+use Rattle.std.proofs.Common.{Some, None, sym, refl, ap, ◌∙◌}
 use Rattle.policy.specs.Books.{in_force}
 use Rattle.books.specs.Slots.{place_of, numbered}
 use Rattle.books.proofs.Held.{place_start, place_found, place_on, place_none, found_number, passed_number, held_done, found_in_force}

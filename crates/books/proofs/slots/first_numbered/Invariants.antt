@@ -1,4 +1,4 @@
-use Rattle.std.proofs.Common.{◌≡◌, ℕ, ◌+◌, length, drop}
+use Rattle.std.proofs.Common.{◌≡◌, ℕ, ◌+◌, drop}
 use Rattle.std.specs.Option.{option_map}
 use Rattle.policy.specs.Books.{in_force}
 use Rattle.books.specs.Slots.{held, place_of, numbered}

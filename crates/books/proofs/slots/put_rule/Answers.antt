@@ -1,11 +1,9 @@
-use Rattle.std.proofs.Common.{◌≡◌, ◌<◌, true, false, ◌∷◌, length, sym, ◌∙◌, arith}
+use Rattle.std.proofs.Common.{◌<◌, ◌∷◌, length, sym, ◌∙◌, arith}
 use Rattle.std.proofs.lemmas.Bool.{le-leb, lt-leb, and_from}
 use Rattle.chart.specs.Layout.{all_of}
 use Rattle.rules.specs.Rules.{well_formed}
-use Rattle.policy.specs.Same.{Same}
-use Rattle.policy.specs.Books.{in_force}
 use Rattle.books.specs.Slots.{held, exact_fits}
-use Rattle.policy.proofs.Orders.{same_refl, same_sym, same_all, same_apart}
+use Rattle.policy.proofs.Orders.{same_refl, same_all, same_apart}
 use Rattle.books.proofs.Held.{place_taken, place_unfit, place_fit, apart_more, held_filled, held_fewer}
 use Rattle.books.proofs.slots.put_rule.Goals as goal
 

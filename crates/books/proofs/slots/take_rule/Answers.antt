@@ -1,4 +1,4 @@
-use Rattle.std.proofs.Common.{◌≡◌, Bool, true, cond, not, eqb, List, Ok, Err, sym, refl, ap, ◌∙◌, subst}
+use Rattle.std.proofs.Common.{Bool, cond, not, eqb, List, Ok, Err, sym, ap, ◌∙◌, subst}
 use Rattle.chart.specs.Layout.{all_of}
 use Rattle.rules.specs.declared.view.RuleRecord.{RuleRecord}
 use Rattle.rules.specs.Rules.{well_formed}

@@ -1,4 +1,4 @@
-use Rattle.std.proofs.Common.{◌≡◌, true, ap, subst}
+use Rattle.std.proofs.Common.{◌≡◌, true, subst}
 use Rattle.chart.specs.declared.state.Chart.{Chart}
 use Rattle.chart.specs.Charts.{layout}
 use Rattle.chart.specs.Layout.{all_of}

@@ -1,11 +1,10 @@
-use Rattle.std.proofs.Common.{◌≡◌, ℕ, ◌+◌, ◌<◌, List, [], ◌∷◌, ◌++◌, length, get_or, take, drop, set, sym, refl, ap, ◌∙◌, subst, arith}
+use Rattle.std.proofs.Common.{◌≡◌, ℕ, ◌+◌, List, [], ◌∷◌, ◌++◌, length, get_or, take, drop, sym, refl, ap, ◌∙◌, subst, arith}
 use Rattle.std.proofs.lemmas.List.{take_more, take_all, length-take-le}
 use Rattle.sets.specs.Sets.{none}
 use Rattle.chart.specs.declared.state.Chart.{Chart}
 use Rattle.chart.specs.Charts.{layout}
 use Rattle.broker.specs.declared.run.Call.{Call}
 use Rattle.broker.specs.declared.run.Call.TheVariants.{Enter}
-use Rattle.broker.specs.declared.run.Answer.{Answer}
 use Rattle.broker.specs.Runs.{state_by, answers_to, Led}
 use Rattle.broker.proofs.RunSteps.{led_none, stepped_as, answer_more, led_more, answers_more}
 use Rattle.broker.proofs.run.run_all.Goals as goal

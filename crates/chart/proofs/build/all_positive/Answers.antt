@@ -1,4 +1,4 @@
-use Rattle.std.proofs.Common.{ℕ, ltb, get_or, sym, ap, ◌∙◌, arith}
+use Rattle.std.proofs.Common.{ℕ, ltb, get_or, sym, ◌∙◌, arith}
 use Rattle.std.proofs.lemmas.Bool.{lt-ltb, le-ltb}
 use Rattle.chart.proofs.Every.{all_stop, all_on, all_done}
 use Rattle.chart.proofs.build.all_positive.Goals as goal

@@ -1,5 +1,4 @@
-use Rattle.std.proofs.Common.{◌≡◌, ℕ, List, set, ap, ◌∙◌}
-use Rattle.chart.specs.declared.parts.Grade.{Grade}
+use Rattle.std.proofs.Common.{ℕ, set, ap, ◌∙◌}
 use Rattle.chart.specs.Layout.{Layout}
 use Rattle.chart.specs.Lookup.{grade_of}
 use Rattle.chart.specs.Charts.{layout}

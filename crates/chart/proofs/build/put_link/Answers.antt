@@ -1,4 +1,4 @@
-use Rattle.std.proofs.Common.{◌≡◌, ℕ, ◌+◌, length, take, refl, ◌∙◌, arith, length-set}
+use Rattle.std.proofs.Common.{length, refl, ◌∙◌, arith, length-set}
 use Rattle.std.proofs.lemmas.List.{take_more_set}
 use Rattle.chart.specs.declared.parts.Link.{Link}
 use Rattle.chart.specs.Layout.{crosses}

@@ -1,8 +1,7 @@
-use Rattle.std.proofs.Common.{◌≡◌, ℕ, ◌+◌, true, ltb, List, [], ◌∷◌, ◌++◌, length, take, set, sym, refl, ap, ◌∙◌, arith, length-set}
+use Rattle.std.proofs.Common.{◌≡◌, ◌+◌, ltb, ◌++◌, length, take, sym, refl, ap, ◌∙◌, arith, length-set}
 use Rattle.std.proofs.lemmas.List.{take_more_set}
-use Rattle.chart.specs.declared.parts.Attribute.{Attribute}
-use Rattle.chart.specs.Layout.{Layout, all_of, proper, crosses}
-use Rattle.chart.specs.Build.{columns, with_relation}
+use Rattle.chart.specs.Layout.{all_of, proper, crosses}
+use Rattle.chart.specs.Build.{columns}
 use Rattle.chart.specs.Charts.{layout}
 use Rattle.chart.proofs.Sound.{relations_length, attributes_length}
 use Rattle.chart.proofs.Extended.{server_told, widths_told, relations_told, attributes_told, owned_more, crossed_more, front_more, same_layout}

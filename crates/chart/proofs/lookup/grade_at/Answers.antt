@@ -1,7 +1,6 @@
 use Rattle.std.proofs.Common.{get_or, ap, ◌∙◌, arith}
 use Rattle.std.proofs.lemmas.List.{get_or_default}
 use Rattle.chart.specs.declared.parts.Grade.TheVariants.{Quay, Public}
-use Rattle.chart.specs.Lookup.{line_place}
 use Rattle.chart.proofs.lookup.grade_at.Goals as goal
 
 pub returns : goal.returns

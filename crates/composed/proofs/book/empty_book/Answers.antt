@@ -1,4 +1,4 @@
-use Rattle.std.proofs.Common.{◌≡◌, ℕ, ◌≤◌, [], length, sym, refl, ap, arith}
+use Rattle.std.proofs.Common.{◌≤◌, [], length, sym, refl, ap, arith}
 use Rattle.chart.specs.Charts.{layout}
 use Rattle.members.specs.Members.{among, members}
 use Rattle.composed.specs.Books.{members_none}

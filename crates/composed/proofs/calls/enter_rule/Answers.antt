@@ -1,4 +1,3 @@
-use Rattle.std.proofs.Common.{rules}
 use Rattle.chart.specs.Charts.{layout}
 use Rattle.policy.proofs.Entered.{entry_is, entry_after, refusal_is, refusal_after}
 use Rattle.books.specs.Slots.{held}

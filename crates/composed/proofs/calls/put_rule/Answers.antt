@@ -1,4 +1,4 @@
-use Rattle.std.proofs.Common.{◌≡◌, ◌≤◌, List, ◌∷◌, length, set, Some, Option, sym, ◌∙◌, subst, arith, rules}
+use Rattle.std.proofs.Common.{List, ◌∷◌, set, Some, Option, sym, ◌∙◌, subst, arith, rules}
 use Rattle.std.proofs.lemmas.Bool.{and_from}
 use Rattle.chart.specs.Charts.{layout}
 use Rattle.chart.specs.Layout.{all_of}

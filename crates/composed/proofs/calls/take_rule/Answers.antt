@@ -1,4 +1,4 @@
-use Rattle.std.proofs.Common.{◌≡◌, ◌≤◌, Bool, true, cond, not, eqb, List, length, set, None, Ok, Err, sym, ap, ◌∙◌, subst, arith, rules}
+use Rattle.std.proofs.Common.{◌≡◌, Bool, cond, not, eqb, List, length, set, None, Ok, Err, sym, ap, ◌∙◌, subst, arith, rules}
 use Rattle.chart.specs.Charts.{layout}
 use Rattle.chart.specs.Layout.{all_of}
 use Rattle.rules.specs.declared.view.RuleRecord.{RuleRecord}

@@ -1,4 +1,4 @@
-use Rattle.std.proofs.Common.{◌≡◌, ◌+◌, ◌<◌, ◌++◌, length, take, drop, sym, ap, ◌∙◌, arith}
+use Rattle.std.proofs.Common.{◌+◌, ◌++◌, take, drop, ap, ◌∙◌, arith}
 use Rattle.policy.specs.Reading.{granted}
 use Rattle.books.specs.Slots.{held}
 use Rattle.composed.proofs.Turns.{views_took, views_passed, views_done}

@@ -1,4 +1,4 @@
-use Rattle.std.proofs.Common.{◌≡◌, true, false}
+use Rattle.std.proofs.Common.{true, false}
 use Rattle.std.proofs.lemmas.Bool.Decides.{Decides-at}
 use Rattle.sets.specs.Sets.{none}
 use Rattle.layers.specs.declared.denial.Denial.{Denial}

@@ -1,4 +1,4 @@
-use Rattle.std.proofs.Common.{◌≡◌, Ok, sym, refl, ap, ◌∙◌, subst}
+use Rattle.std.proofs.Common.{Ok, sym, ap, ◌∙◌, subst}
 use Rattle.chart.specs.Charts.{layout}
 use Rattle.search.specs.declared.run.Outcome.{Outcome}
 use Rattle.planner.specs.Queries.{AnsweredBy}

@@ -1,8 +1,8 @@
-use Rattle.std.proofs.Common.{◌≡◌, ℕ, ◌*◌, ◌<◌, ◌≤◌, true, length, sym, refl, ap, ◌∙◌, subst, arith}
+use Rattle.std.proofs.Common.{◌≡◌, true, length, sym, ap, ◌∙◌, subst, arith}
 use Rattle.chart.specs.declared.state.Chart.{Chart}
 use Rattle.chart.specs.Charts.{layout}
 use Rattle.chart.proofs.Sound.{chart_sound}
-use Rattle.queries.specs.declared.refusal.TreeRefusal.TheVariants.{Count, Room}
+use Rattle.queries.specs.declared.refusal.TreeRefusal.TheVariants.{Room}
 use Rattle.queries.specs.Questions.{count_fits, node_profile}
 use Rattle.queries.specs.Sound.{Sound}
 use Rattle.search.specs.Rows.{Filled}
@@ -10,7 +10,7 @@ use Rattle.search.specs.Outcomes.{outcome_of}
 use Rattle.search.specs.declared.run.Outcome.{Outcome}
 use Rattle.planner.specs.Queries.{AnsweredBy, answer_by, plan_by, releases_by}
 use Rattle.planner.proofs.Buffers.{table_is}
-use Rattle.planner.proofs.Queried.{no_count, no_room, as_searched, refused_by, accepted_by, judged_by}
+use Rattle.planner.proofs.Queried.{no_room, as_searched, refused_by, accepted_by, judged_by}
 use Rattle.planner.proofs.query.plan_query.Goals as goal
 use Rattle.tariff.specs.Pricing.{pricing_of}
 

@@ -1,8 +1,7 @@
-use Rattle.std.proofs.Common.{◌≡◌, ℕ, List, length, sym, ap, ◌∙◌, arith, rules}
+use Rattle.std.proofs.Common.{ℕ, List, length, ap, ◌∙◌, rules}
 use Rattle.chart.specs.Charts.{layout}
 use Rattle.chart.proofs.Sound.{chart_sound}
 use Rattle.assignments.specs.declared.parts.Release.{Release}
-use Rattle.planner.specs.declared.answer.Planned.{Planned}
 use Rattle.planner.specs.Plans.{releases_after}
 use Rattle.planner.specs.Queries.{assigned}
 use Rattle.planner.proofs.Buffers.{released_is}

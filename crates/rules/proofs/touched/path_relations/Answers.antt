@@ -1,4 +1,4 @@
-use Rattle.std.proofs.Common.{ℕ, sym, ap, ◌∙◌, inl, inr}
+use Rattle.std.proofs.Common.{sym, ap, ◌∙◌, inl, inr}
 use Rattle.sets.specs.Sets.{union}
 use Rattle.chart.specs.Charts.{layout}
 use Rattle.rules.specs.Relations.{link_relations}

@@ -1,7 +1,7 @@
-use Rattle.std.proofs.Common.{◌≡◌, ◌+◌, ◌-◌, sym, ap, ◌∙◌}
+use Rattle.std.proofs.Common.{◌+◌, ◌-◌, sym, ap, ◌∙◌}
 use Rattle.sets.proofs.Sets.{same_is}
 use Rattle.chart.specs.Charts.{layout}
-use Rattle.rules.specs.Trees.{spread, rounds}
+use Rattle.rules.specs.Trees.{rounds}
 use Rattle.rules.proofs.Rounds.{rounds_step, rounds_none, rounds_fixed}
 use Rattle.rules.proofs.tree_test.flood.Goals as goal
 

@@ -1,5 +1,4 @@
-use Rattle.std.proofs.Common.{◌≡◌, ℕ, cond}
-use Rattle.sets.specs.declared.small_set.SmallSet.{SmallSet}
+use Rattle.std.proofs.Common.{◌≡◌, cond}
 use Rattle.sets.specs.Sets.{none, union, disjoint, members_from}
 use Rattle.chart.specs.Charts.{layout}
 use Rattle.rules.specs.Relations.{gather, link_relations}

@@ -1,5 +1,4 @@
 use Rattle.std.proofs.Common.{◌≡◌, [], ◌∷◌, refl, ap, ◌∙◌}
-use Rattle.chart.specs.Layout.{Layout}
 use Rattle.chart.specs.Build.{bare, relation_answer, with_relation, link_answer, with_link}
 use Rattle.chart.specs.Charts.{layout}
 use Rattle.sample.proofs.Stages.{first, second, third, fourth, same_ok, never}

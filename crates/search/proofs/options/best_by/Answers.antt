@@ -1,4 +1,4 @@
-use Rattle.std.proofs.Common.{◌≡◌, ℕ, Option, sym, ap, ◌∙◌, arith}
+use Rattle.std.proofs.Common.{◌≡◌, sym, ap, ◌∙◌, arith}
 use Rattle.assignments.specs.declared.parts.Place.{Place}
 use Rattle.assignments.proofs.Cheapest.{cheapest_none}
 use Rattle.assignments.proofs.Options.{left_below, right_below}

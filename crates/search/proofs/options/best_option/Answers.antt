@@ -1,5 +1,4 @@
-use Rattle.std.proofs.Common.{◌≡◌, sym, ap, ◌∙◌, ap₂}
-use Rattle.assignments.specs.declared.mode.Mode.TheVariants.{Local, LeftMaster, LeftSemi, RightMaster, RightSemi}
+use Rattle.std.proofs.Common.{sym, ◌∙◌, ap₂}
 use Rattle.assignments.specs.declared.parts.Place.{Place}
 use Rattle.assignments.specs.Cheapest.{better}
 use Rattle.assignments.proofs.Options.{best_five}

@@ -1,5 +1,5 @@
-use Rattle.std.proofs.Common.{◌≡◌, ℕ, ◌<◌, Bool, true, ◌&&◌, sym, ap, ◌∙◌, subst, ap₂}
-use Rattle.assignments.specs.Modes.{fits, left_at, right_at, releases, allowed}
+use Rattle.std.proofs.Common.{ℕ, ◌<◌, Bool, ◌&&◌, sym, ap, ◌∙◌, subst, ap₂}
+use Rattle.assignments.specs.Modes.{left_at, right_at, releases, allowed}
 use Rattle.search.proofs.options.is_option.Goals as goal
 
 pub returns-then-fits : goal.returns-then-fits

@@ -1,5 +1,4 @@
 use Rattle.std.proofs.Common.{◌≡◌, ℕ, Option, sym, ap, ◌∙◌, arith}
-use Rattle.assignments.specs.declared.parts.Place.{Place}
 use Rattle.assignments.specs.Cheapest.{cheapest}
 use Rattle.assignments.proofs.Cheapest.{cheapest_none}
 use Rattle.search.specs.declared.root.Seat.{Seat}

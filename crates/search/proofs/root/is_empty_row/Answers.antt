@@ -1,7 +1,6 @@
-use Rattle.std.proofs.Common.{◌≡◌, ℕ, is_some, Option, sym, ap, ◌∙◌, arith}
+use Rattle.std.proofs.Common.{ℕ, is_some, Option, sym, ap, ◌∙◌, arith}
 use Rattle.assignments.specs.declared.parts.Place.{Place}
 use Rattle.search.specs.Rows.{place_at}
-use Rattle.search.specs.Root.{empty_row}
 use Rattle.search.proofs.Empty.{empty_none, empty_more, empty_stop}
 use Rattle.search.proofs.root.is_empty_row.Goals as goal
 

@@ -1,4 +1,4 @@
-use Rattle.std.proofs.Common.{◌≡◌, ℕ, Bool, sym, ap, ◌∙◌, arith}
+use Rattle.std.proofs.Common.{◌≡◌, ℕ, Bool, sym, ◌∙◌, arith}
 use Rattle.search.specs.Rows.{place_at}
 use Rattle.search.specs.Root.{empty_row}
 use Rattle.search.proofs.Empty.{first_none, first_here, first_on, first_past}

@@ -1,6 +1,4 @@
-use Rattle.std.proofs.Common.{◌≡◌, ℕ, ◌+◌, ◌*◌, ◌<◌, set, Option, sym, refl, ap, ◌∙◌, subst, arith}
-use Rattle.assignments.specs.declared.parts.Place.{Place}
-use Rattle.search.specs.declared.rows.Source.{Source}
+use Rattle.std.proofs.Common.{◌≡◌, ℕ, ◌+◌, ◌*◌, set, sym, refl, ap, ◌∙◌, subst, arith}
 use Rattle.search.specs.Rows.{place_at, place_from, Row}
 use Rattle.search.specs.Sources.{Sourced}
 use Rattle.search.proofs.RowSteps.{row_none, row_turn}

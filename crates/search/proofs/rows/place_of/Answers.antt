@@ -1,4 +1,4 @@
-use Rattle.std.proofs.Common.{◌≡◌, ap, ◌∙◌, subst}
+use Rattle.std.proofs.Common.{ap, ◌∙◌, subst}
 use Rattle.assignments.specs.Table.{kept}
 use Rattle.search.specs.declared.rows.Source.{Source}
 use Rattle.search.specs.Rows.{place_at}

@@ -1,4 +1,4 @@
-use Rattle.std.proofs.Common.{◌≡◌, ◌+◌, ◌≤◌, sym, ap, ◌∙◌, inl, inr, arith}
+use Rattle.std.proofs.Common.{◌≡◌, ◌+◌, sym, ap, ◌∙◌, inl, inr, arith}
 use Rattle.chart.specs.Charts.{layout}
 use Rattle.chart.specs.Lookup.{width_of}
 use Rattle.tariff.specs.Bytes.{capped}
