@@ -16,7 +16,10 @@ STRING = re.compile(r"\"(?:[^\"\\]|\\.)*\"")
 
 
 def respell(text):
-    return OLD.sub(lambda m: NAMES.get(m.group(1), m.group(1)), text)
+    # the library's word for every element of a list, by recursion, under its own name
+    own = dict(NAMES, All="AllByRecursion") if "AllByRecursion as All" in text else NAMES
+    text = text.replace("AllByRecursion as All", "AllByRecursion")
+    return OLD.sub(lambda m: own.get(m.group(1), m.group(1)), text)
 
 
 def respell_source(text):

@@ -1,6 +1,6 @@
 -- Each place of the table is empty or holds the least price of its tree's safe assignments.
 use Rattle.std.proofs.Common.{◌≡◌, ℕ, zero, suc, ◌<◌, Bool, true, false, List, [], ◌∷◌, Some, None, Option, sym, refl, ap, ◌∙◌, subst, arith}
-use Rattle.std.specs.List.{AllByRecursion as All, slice_get}
+use Rattle.std.specs.List.{AllByRecursion, slice_get}
 use Rattle.std.proofs.lemmas.Bool.{eq-eqb, cond-true}
 use Rattle.chart.specs.Layout.{Layout}
 use Rattle.chart.specs.Lookup.{server_of}
@@ -22,7 +22,7 @@ use Rattle.assignments.proofs.Options.{offer_is, best_none, best_some}
 use Rattle.assignments.proofs.Follows.{uncond, unkept, recorded_executor, follows_recorded, follows_way}
 
 -- ---- assignments stay within the servers
-homed_at : (n : ℕ) (xs : List ℕ) → All (λ s. s < n) xs → (r s : ℕ) → slice_get xs r ≡ Some s → s < n
+homed_at : (n : ℕ) (xs : List ℕ) → AllByRecursion (λ s. s < n) xs → (r s : ℕ) → slice_get xs r ≡ Some s → s < n
 homed_at n [] h r s e = absurd (not_both _ s refl e)
 homed_at n (x ∷ xs) h zero s e = let z : x ≡ s = cc in omega arith
 homed_at n (x ∷ xs) h (suc r) s e = homed_at n xs h.1 r s e

@@ -1,7 +1,7 @@
 -- What an extended chart still keeps.
 use Rattle.std.proofs.Common.{◌≡◌, ℕ, ◌+◌, ◌<◌, ◌≤◌, Bool, true, false, cond, not, ltb, leb, List, [], ◌∷◌, ◌++◌, length, take, set, Ok, Err, Option, refl, ap, ◌∙◌, arith}
 use Rattle.std.specs.Option.{option_map}
-use Rattle.std.specs.List.{AllByRecursion as All}
+use Rattle.std.specs.List.{AllByRecursion}
 use Rattle.std.proofs.lemmas.List.{take_more_set}
 use Rattle.std.proofs.lemmas.Bool.{and_parts, and_from, ltb-true, leb-true, lt-ltb}
 use Rattle.chart.specs.declared.parts.Attribute.{Attribute}
@@ -16,11 +16,11 @@ use Rattle.chart.proofs.Fronts.{nth_append}
 use Rattle.chart.proofs.Sound.{crosses_tells}
 
 -- where no question was answered with no, each was answered with yes
-pub all_yes : {E T : Type 0} (qs : List (Bool × E)) (t u : T) → asked qs t ≡ Ok u → All (λ q. q.0 ≡ true) qs
+pub all_yes : {E T : Type 0} (qs : List (Bool × E)) (t u : T) → asked qs t ≡ Ok u → AllByRecursion (λ q. q.0 ≡ true) qs
 all_yes [] t u h = tt
 all_yes (q ∷ qs) t u h = go q.0 refl h (all_yes qs t u)
   where
-    go : (b : Bool) → q.0 ≡ b → cond b (asked qs t) (Err q.1) ≡ Ok u → (asked qs t ≡ Ok u → All (λ r. r.0 ≡ true) qs) → All (λ r. r.0 ≡ true) (q ∷ qs)
+    go : (b : Bool) → q.0 ≡ b → cond b (asked qs t) (Err q.1) ≡ Ok u → (asked qs t ≡ Ok u → AllByRecursion (λ r. r.0 ≡ true) qs) → AllByRecursion (λ r. r.0 ≡ true) (q ∷ qs)
     go true e h rest = (e, rest h)
     go false e h rest = absurd (let z : ◌≡◌ {A = ℕ} 0 1 = cc in omega arith)
 

@@ -1,7 +1,7 @@
 -- What is known of the parts of a chart.
 use Rattle.std.proofs.Common.{◌≡◌, ℕ, zero, suc, ◌<◌, Bool, true, eqb, ltb, List, [], ◌∷◌, length, is_some, IfSome, Some, None, Option, sym, refl, ap, ◌∙◌, inl, inr, arith}
 use Rattle.std.specs.Option.{option_map}
-use Rattle.std.specs.List.{AllByRecursion as All, slice_get}
+use Rattle.std.specs.List.{AllByRecursion, slice_get}
 use Rattle.std.proofs.lemmas.List.{length-take}
 use Rattle.std.proofs.lemmas.Option.{slice_get_past}
 use Rattle.std.proofs.lemmas.Bool.{and_parts, ltb-true, eq-eqb, not-true, both_ways, false≢true, cases_lt}
@@ -17,7 +17,7 @@ all_at p (y ∷ ys) h zero = (and_parts (p y) (all_of p ys) h).0
 all_at p (y ∷ ys) h (suc k) = all_at p ys (and_parts (p y) (all_of p ys) h).1 k
 
 -- each element passes, so what a passing test tells holds of each
-pub all_told : {X : Type 0} (p : X → Bool) (P : X → Type 0) → ((x : X) → p x ≡ true → P x) → (xs : List X) → all_of p xs ≡ true → All P xs
+pub all_told : {X : Type 0} (p : X → Bool) (P : X → Type 0) → ((x : X) → p x ≡ true → P x) → (xs : List X) → all_of p xs ≡ true → AllByRecursion P xs
 all_told p P tells [] h = tt
 all_told p P tells (x ∷ xs) h = let b = and_parts (p x) (all_of p xs) h in (tells x b.0, all_told p P tells xs b.1)
 

@@ -1,6 +1,6 @@
 -- What every chart keeps, and what the definitions of look-ups mean.
 use Rattle.std.specs.Prelude.{◌≡◌, ℕ, ◌<◌, ◌≤◌, length, Some, Decides, ◌≢◌}
-use Rattle.std.specs.List.{AllByRecursion as All}
+use Rattle.std.specs.List.{AllByRecursion}
 use Rattle.sets.specs.Sets.{has}
 use Rattle.chart.specs.declared.parts.Grade.TheVariants.{Public}
 use Rattle.chart.specs.declared.state.Chart.{Chart}
@@ -16,11 +16,11 @@ pub record Sound (l : Layout) : Type 0 where
   pub few_attributes : length l.attributes ≤ 64
   pub few_links : length l.links ≤ 64
   -- a relation lies at a known server
-  pub homed : All (λ s. s < l.servers) l.homes
+  pub homed : AllByRecursion (λ s. s < l.servers) l.homes
   -- an attribute belongs to a known relation and is at least a byte wide
-  pub owned : All (λ x. (x.relation < length l.homes) × (0 < x.width)) l.attributes
+  pub owned : AllByRecursion (λ x. (x.relation < length l.homes) × (0 < x.width)) l.attributes
   -- a link's ends are known attributes of different relations
-  pub crossed : All (λ x. (x.left < length l.attributes) × (x.right < length l.attributes) × (relation_of l x.left ≢ relation_of l x.right)) l.links
+  pub crossed : AllByRecursion (λ x. (x.left < length l.attributes) × (x.right < length l.attributes) × (relation_of l x.left ≢ relation_of l x.right)) l.links
 
 pub record Laws : Type 0 where
   pub charts_sound : (c : Chart) → Sound (layout c)

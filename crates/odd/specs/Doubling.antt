@@ -1,7 +1,7 @@
 -- Prices that are joined by doubling the first.
 use Rattle.std.specs.Prelude.{ℕ, ◌+◌, min, nat_le}
 use Rattle.tariff.specs.Pricing.{Pricing}
-use Rattle.odd.specs.declared.tariff.Doubled.{Doubled}
+use Rattle.odd.specs.declared.doubling.Doubled.{Doubled}
 
 -- a cost stops at 4,294,967,295 instead of passing it
 abbrev pub capped : ℕ → ℕ

@@ -2,7 +2,7 @@
 #![tactic(auto)]
 
 mod book;
-mod tariff;
+mod doubling;
 
 pub use book::SingleRuleBook;
-pub use tariff::{Doubled, DoublingTariff};
+pub use doubling::{Doubled, DoublingTariff};

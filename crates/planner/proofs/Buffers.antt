@@ -1,6 +1,6 @@
 -- The buffers after a query: what is read from them.
 use Rattle.std.proofs.Common.{◌≡◌, ℕ, zero, suc, ◌*◌, ◌/◌, ◌%◌, ◌<◌, ◌≤◌, Bool, cond, ltb, ◌⊎◌, List, [], ◌∷◌, ◌++◌, length, get_or, None, Option, sym, refl, ap, ◌∙◌, ap₂, inl, inr, arith}
-use Rattle.std.specs.List.{AllByRecursion as All}
+use Rattle.std.specs.List.{AllByRecursion}
 use Rattle.std.proofs.lemmas.Nat.{div-add-mod', div_below, mod_below}
 use Rattle.std.proofs.lemmas.List.FromFn.{get_or-map-range_with_len, fill_by_all}
 use Rattle.std.proofs.lemmas.Bool.{cases_lt, cond_below, cond_above}
@@ -29,7 +29,7 @@ at_plan e n plan k long h =
     ∙ sym (cond_below k n (e k) (at_step plan k) h)
 
 -- what a node releases depends on its own step and those of its operands
-node_like : (l : Layout) (nodes : List Node) (e f : Steps) (k : ℕ) (x : Node) → e k ≡ f k → All (λ j. e j ≡ f j) (operands x) → node_releases l nodes e k x ≡ node_releases l nodes f k x
+node_like : (l : Layout) (nodes : List Node) (e f : Steps) (k : ℕ) (x : Node) → e k ≡ f k → AllByRecursion (λ j. e j ≡ f j) (operands x) → node_releases l nodes e k x ≡ node_releases l nodes f k x
 node_like l nodes e f k (Leaf r) h a = refl
 node_like l nodes e f k (Project j s) h a = refl
 node_like l nodes e f k (Filter j s) h a = refl
@@ -38,11 +38,11 @@ node_like l nodes e f k (Join i j link) h a =
     ap (λ (v : Step). releases pair v.mode (e i).executor (e j).executor) h
     ∙ ap₂ (λ (v w : Step). releases pair (f k).mode v.executor w.executor) a.0 a.1.0
 
-operands_like : (e f : Steps) (k n : ℕ) → k < n → ((j : ℕ) → j < n → e j ≡ f j) → (js : List ℕ) → All (λ j. j < k) js → All (λ j. e j ≡ f j) js
+operands_like : (e f : Steps) (k n : ℕ) → k < n → ((j : ℕ) → j < n → e j ≡ f j) → (js : List ℕ) → AllByRecursion (λ j. j < k) js → AllByRecursion (λ j. e j ≡ f j) js
 operands_like e f k n h same [] a = tt
 operands_like e f k n h same (j ∷ js) a = (same j (omega (arith, a.0)), operands_like e f k n h same js a.1)
 
-pub entailed_like : (l : Layout) (nodes : List Node) (e f : Steps) → ((i : ℕ) → i < length nodes → All (λ j. j < i) (operands (node nodes i))) → ((j : ℕ) → j < length nodes → e j ≡ f j)
+pub entailed_like : (l : Layout) (nodes : List Node) (e f : Steps) → ((i : ℕ) → i < length nodes → AllByRecursion (λ j. j < i) (operands (node nodes i))) → ((j : ℕ) → j < length nodes → e j ≡ f j)
     → (n : ℕ) → n ≤ length nodes → entailed l nodes e n ≡ entailed l nodes f n
 unfolding entailed
 entailed_like l nodes e f earlier same zero h = refl
@@ -68,7 +68,7 @@ module _ {P : Type 0} (c : Pricing P) (may : ℕ → Profile → Bool) (l : Layo
   table_is = fill_by_all f new (length old) None filled.sized (λ k h. at k (cases_lt k (length nodes * n)))
 
 -- what the written plan releases is what the assignment does
-pub released_is : (l : Layout) (nodes : List Node) (e : Steps) (old new : List Step) → ((i : ℕ) → i < length nodes → All (λ j. j < i) (operands (node nodes i))) → length nodes ≤ length old
+pub released_is : (l : Layout) (nodes : List Node) (e : Steps) (old new : List Step) → ((i : ℕ) → i < length nodes → AllByRecursion (λ j. j < i) (operands (node nodes i))) → length nodes ≤ length old
     → new ≡ plan_after e (length nodes) old → entailed l nodes (at_step new) (length nodes) ≡ entailed l nodes e (length nodes)
 released_is l nodes e old new earlier long w =
     entailed_like l nodes (at_step new) e earlier (λ k h. ap (λ (p : List Step). at_step p k) w ∙ at_plan e (length nodes) old k long h) (length nodes) (omega arith)

@@ -1,6 +1,6 @@
 -- The listed releases of a plan are those of its tree, so they are allowed just where it is safe.
 use Rattle.std.proofs.Common.{◌≡◌, ℕ, zero, suc, ◌+◌, ◌-◌, ◌<◌, ◌≤◌, Bool, true, false, ◌||◌, eqb, ◌⊎◌, List, [], ◌∷◌, ◌++◌, length, sym, refl, ap, ◌∙◌, subst, ap₂, inl, inr, ⊎_elim, arith}
-use Rattle.std.specs.List.{AllByRecursion as All}
+use Rattle.std.specs.List.{AllByRecursion}
 use Rattle.std.proofs.lemmas.Bool.{cases_eq, and_parts, and_from, or_cases, eqb-true, false≢true}
 use Rattle.chart.specs.Layout.{Layout}
 use Rattle.profile.specs.declared.shape.Profile.{Profile}
@@ -52,13 +52,13 @@ module _ (l : Layout) (may : ℕ → Profile → Bool) (e : Steps) where
         ap₂ (releases (pair_of l k (tree_of nodes a) (tree_of nodes b)) (e i).mode)
         (ap (λ (n : ℕ). (e n).executor) (tree_top l nodes sound a (omega arith))) (ap (λ (n : ℕ). (e n).executor) (tree_top l nodes sound b (omega arith)))
 
-    safe_own : (i : ℕ) → i < length nodes → (x : Node) → All (λ j. j < i) (operands x) → Safe l may e (grow (tree_of nodes) i x) → allowed may (node_releases l nodes e i x) ≡ true
+    safe_own : (i : ℕ) → i < length nodes → (x : Node) → AllByRecursion (λ j. j < i) (operands x) → Safe l may e (grow (tree_of nodes) i x) → allowed may (node_releases l nodes e i x) ≡ true
     safe_own i h (Leaf r) b s = refl
     safe_own i h (Project j a) b s = refl
     safe_own i h (Filter j a) b s = refl
     safe_own i h (Join x y k) b s = ap (allowed may) (sym (own_is i x y k h b.0 b.1.0)) ∙ s.2
 
-    own_safe : (i : ℕ) → i < length nodes → (x : Node) → All (λ j. j < i) (operands x) → ((j : ℕ) → j < i → Safe l may e (tree_of nodes j))
+    own_safe : (i : ℕ) → i < length nodes → (x : Node) → AllByRecursion (λ j. j < i) (operands x) → ((j : ℕ) → j < i → Safe l may e (tree_of nodes j))
         → allowed may (node_releases l nodes e i x) ≡ true → Safe l may e (grow (tree_of nodes) i x)
     own_safe i h (Leaf r) b below own = tt
     own_safe i h (Project j a) b below own = below j b.0

@@ -1,6 +1,6 @@
 -- The loop that writes a plan, from the root down.
 use Rattle.std.proofs.Common.{◌≡◌, ℕ, ◌+◌, ◌-◌, ◌<◌, ◌≤◌, Bool, true, false, cond, ◌||◌, eqb, ltb, ◌⊎◌, List, length, set, Some, None, Option, sym, refl, ap, ◌∙◌, subst, inl, inr, ⊎_elim, arith, length-set}
-use Rattle.std.specs.List.{AllByRecursion as All}
+use Rattle.std.specs.List.{AllByRecursion}
 use Rattle.std.proofs.lemmas.List.{get_or-set_same, get_or-set_other}
 use Rattle.std.proofs.lemmas.List.FromFn.{fill_by_all}
 use Rattle.std.proofs.lemmas.Bool.{cases_eq, cases_lt, cases_Bool, cases_order, or_parts, or_cases, eqb-true, eqb-false, false≢true, both_ways, cond-true, cond-false, lt-ltb, le-ltb}
@@ -60,7 +60,7 @@ Onward e s p (Filter j a) = (e j).executor ≡ s
 Onward e s p (Join a b k) = ((e a).executor ≡ left_at p.mode s p.other) × ((e b).executor ≡ right_at p.mode s p.other)
 
 module _ (i s : ℕ) (m : Mode) (u : ℕ) (plan : List Step) (long : i < length plan) where
-  led_here : (x : Node) → All (λ j. j < i) (operands x) → at_step (led x i s m u plan) i ≡ step s m
+  led_here : (x : Node) → AllByRecursion (λ j. j < i) (operands x) → at_step (led x i s m u plan) i ≡ step s m
   led_here (Leaf r) h = here plan i (step s m) long
   led_here (Project j a) h = other (set plan i (step s m)) j i (step s Local) (λ z. omega (arith, h.0)) ∙ here plan i (step s m) long
   led_here (Filter j a) h = other (set plan i (step s m)) j i (step s Local) (λ z. omega (arith, h.0)) ∙ here plan i (step s m) long
@@ -85,7 +85,7 @@ module _ {P : Type 0} (e : Steps) (i s : ℕ) (p : Place P) (plan : List Step) (
   sent_here old j k v h z is =
       ap (λ (n : ℕ). (at_step (set old j (step v Local)) n).executor) z ∙ ap (λ (w : Step). w.executor) (here old j (step v Local) h) ∙ sym is ∙ ap (λ (n : ℕ). (e n).executor) (sym z)
 
-  led_onward : (x : Node) (k : ℕ) → All (λ j. j < i) (operands x) → Onward e s p x → uses k x ≡ true → (at_step (led x i s p.mode p.other plan) k).executor ≡ (e k).executor
+  led_onward : (x : Node) (k : ℕ) → AllByRecursion (λ j. j < i) (operands x) → Onward e s p x → uses k x ≡ true → (at_step (led x i s p.mode p.other plan) k).executor ≡ (e k).executor
   led_onward (Leaf r) k h on hit = absurd (false≢true hit)
   led_onward (Project j a) k h on hit = sent_here (set plan i (step s p.mode)) j k s (simp length-set (omega (arith, h.0))) (used_one j k hit) on
   led_onward (Filter j a) k h on hit = sent_here (set plan i (step s p.mode)) j k s (simp length-set (omega (arith, h.0))) (used_one j k hit) on
@@ -176,7 +176,7 @@ module _ {P : Type 0} (T : ℕ → ℕ → Option (Place P)) (l : Layout) (nodes
 
 -- ---- the recorded assignment goes by its places
 module _ {P : Type 0} (f : ℕ → Tree) (l : Layout) (c : Pricing P) (may : ℕ → Profile → Bool) (e : Steps) (i : ℕ) where
-  grow_leads : (x : Node) → All (λ j. top (f j) ≡ j) (operands x) → Follows l c may e (grow f i x) → (p : Place P) × Holds l c may e (grow f i x) p × Onward e (e i).executor p x
+  grow_leads : (x : Node) → AllByRecursion (λ j. top (f j) ≡ j) (operands x) → Follows l c may e (grow f i x) → (p : Place P) × Holds l c may e (grow f i x) p × Onward e (e i).executor p x
   grow_leads (Leaf r) tops h = (h.0, h.1, tt)
   grow_leads (Project j s) tops h = (h.0, h.1, ap (λ (n : ℕ). (e n).executor) (sym tops.0) ∙ h.2)
   grow_leads (Filter j s) tops h = (h.0, h.1, ap (λ (n : ℕ). (e n).executor) (sym tops.0) ∙ h.2)
@@ -200,7 +200,7 @@ module _ {P : Type 0} (nodes : List Node) (places : List (Option (Place P))) (n 
   some : length nodes - 1 < length nodes
   some = let h = m.sound.some in omega arith
 
-  tops : (i : ℕ) → i < length nodes → (x : Node) → All (λ j. j < i) (operands x) → All (λ j. top (tree_of nodes j) ≡ j) (operands x)
+  tops : (i : ℕ) → i < length nodes → (x : Node) → AllByRecursion (λ j. j < i) (operands x) → AllByRecursion (λ j. top (tree_of nodes j) ≡ j) (operands x)
   tops i h (Leaf r) b = tt
   tops i h (Project j a) b = (tree_top l nodes m.sound j (omega (arith, b.0)), tt)
   tops i h (Filter j a) b = (tree_top l nodes m.sound j (omega (arith, b.0)), tt)

@@ -1,5 +1,5 @@
 ghost use Rattle.std.specs.Prelude.{◌≡◌, ℕ, ◌-◌, ◌<◌, ◌≤◌, Bool, List, length, Some, Option as Maybe};
-ghost use Rattle.std.specs.List.{AllByRecursion as All};
+ghost use Rattle.std.specs.List.{AllByRecursion};
 ghost use Rattle.chart.specs.Layout.{Layout};
 ghost use Rattle.chart.specs.Sound.{Sound as SoundChart};
 ghost use Rattle.profile.specs.declared.shape.Profile.{Profile as Shape};
@@ -17,7 +17,7 @@ use search::Table;
 
 // Writes the step of a node, and sends its operands where its mode has them. Their own modes are written when they are reached.
 fn lead(node: Node, i: usize, executor: u16, mode: Mode, other: u16, plan: &mut [Step])
-    requires { (All (λ j. j < i) (operands node)) × (i < length plan.old) }
+    requires { (AllByRecursion (λ j. j < i) (operands node)) × (i < length plan.old) }
     ensures { plan.new ≡ led node i executor mode other plan.old }
 {
     plan[i] = Step { executor, mode };
@@ -51,7 +51,7 @@ pub(crate) fn write_plan<P: Copy>(
     plan: &mut [Step],
 )
     requires sizes { (0 < length nodes.now) × (length nodes.now ≤ length plan.old) × (length nodes.now < 64) }
-    requires earlier { (i : ℕ) → i < length nodes.now → All (λ j. j < i) (operands (NodeAt nodes.now i)) }
+    requires earlier { (i : ℕ) → i < length nodes.now → AllByRecursion (λ j. j < i) (operands (NodeAt nodes.now i)) }
     ensures { (l : Layout) (c : Pricing P) (may : ℕ → Shape → Bool) (old : List (Maybe (Seat P))) (p : Seat P) → SoundChart l → Sound l nodes.now → table.now.servers ≡ l.servers → Filled c may l nodes.now (length nodes.now) old table.now.places.now → place_of c may l.servers l (tree_of nodes.now (length nodes.now - 1)) executor ≡ Some p → executor < l.servers → plan.new ≡ plan_after (recorded c may l.servers l (tree_of nodes.now (length nodes.now - 1)) executor) (length nodes.now) plan.old }
 {
     let root = nodes.len() - 1;

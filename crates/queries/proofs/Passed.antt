@@ -1,6 +1,6 @@
 -- What is so of a tree that passed its questions.
 use Rattle.std.proofs.Common.{◌≡◌, ℕ, zero, suc, ◌+◌, ◌-◌, ◌<◌, ◌≤◌, Bool, true, false, not, ◌&&◌, ◌||◌, eqb, ltb, leb, ◌⊎◌, List, [], ◌∷◌, ◌++◌, length, is_some, Some, None, Ok, Option, sym, refl, ap, ◌∙◌, inl, inr, ⊎_elim, arith}
-use Rattle.std.specs.List.{AllByRecursion as All}
+use Rattle.std.specs.List.{AllByRecursion}
 use Rattle.std.proofs.lemmas.Bool.{cases_order, and_parts, or_cases, or_left, or_right, or_parts, leb-true, eqb-true, eqb-false, not-true, both_ways, false≢true}
 use Rattle.chart.specs.Layout.{Layout, all_of, any_of}
 use Rattle.chart.specs.Lookup.{server_of}
@@ -17,7 +17,7 @@ use Rattle.queries.proofs.Turns.{fit_earlier}
 
 -- every question was answered with yes
 abbrev Yes : List (Bool × TreeRefusal) → Type 0
-Yes qs = All (λ (q : Bool × TreeRefusal). q.0 ≡ true) qs
+Yes qs = AllByRecursion (λ (q : Bool × TreeRefusal). q.0 ≡ true) qs
 
 yes_split : (qs rs : List (Bool × TreeRefusal)) → Yes (qs ++ rs) → Yes qs × Yes rs
 yes_split [] rs h = (tt, h)

@@ -1,7 +1,7 @@
 -- The questions of one node, as they are asked by the sets and profiles kept of those before it.
 use Rattle.std.proofs.Common.{◌≡◌, ℕ, suc, ◌+◌, ◌-◌, ◌<◌, ◌≤◌, Bool, true, false, cond, not, ◌&&◌, ltb, ◌≢◌, ◌⊎◌, List, [], ◌∷◌, ◌++◌, length, get_or, set, is_some, Ok, Err, sym, refl, ap, ◌∙◌, ap₂, inl, inr, arith, below_more}
 use Rattle.std.proofs.lemmas.List.{get_or-set_same, get_or-set_other}
-use Rattle.std.specs.List.{AllByRecursion as All}
+use Rattle.std.specs.List.{AllByRecursion}
 use Rattle.std.proofs.lemmas.Option.{slice_get_past}
 use Rattle.std.proofs.lemmas.Bool.{cases_lt, and_parts, ltb-true, true≢false, false≢true}
 use Rattle.sets.specs.declared.small_set.SmallSet.{SmallSet}
@@ -26,17 +26,17 @@ use Rattle.queries.proofs.Flat.{tree_step}
 use Rattle.queries.proofs.Seen.{operands_same}
 
 -- operands that fit are earlier
-all_earlier : (p : ℕ → Bool) (i : ℕ) (js : List ℕ) → all_of (λ j. ltb j i && not (p j)) js ≡ true → All (λ j. j < i) js
+all_earlier : (p : ℕ → Bool) (i : ℕ) (js : List ℕ) → all_of (λ j. ltb j i && not (p j)) js ≡ true → AllByRecursion (λ j. j < i) js
 all_earlier p i [] h = tt
 all_earlier p i (j ∷ js) h =
     let b = and_parts (ltb j i && not (p j)) (all_of (λ j. ltb j i && not (p j)) js) h in
     (ltb-true j i (and_parts (ltb j i) (not (p j)) b.0).0, all_earlier p i js b.1)
 
-pub fit_earlier : (p : ℕ → Bool) (i : ℕ) (js : List ℕ) → operands_fit p i js ≡ true → All (λ j. j < i) js
+pub fit_earlier : (p : ℕ → Bool) (i : ℕ) (js : List ℕ) → operands_fit p i js ≡ true → AllByRecursion (λ j. j < i) js
 fit_earlier p i js h = all_earlier p i js (and_parts (all_of (λ j. ltb j i && not (p j)) js) (different js) h).0
 
 -- the profile of a node's result, from those of its operands
-pub profile_step : (l : Layout) (nodes : List Node) (i : ℕ) → All (λ j. j < i) (operands (node nodes i)) → node_profile l nodes i ≡ profile_by l (node_profile l nodes) (node nodes i)
+pub profile_step : (l : Layout) (nodes : List Node) (i : ℕ) → AllByRecursion (λ j. j < i) (operands (node nodes i)) → node_profile l nodes i ≡ profile_by l (node_profile l nodes) (node nodes i)
 unfolding node_profile
 profile_step l nodes i h = ap (profile_of l) (tree_step nodes i h) ∙ go (node nodes i)
   where
@@ -46,7 +46,7 @@ profile_step l nodes i h = ap (profile_of l) (tree_step nodes i h) ∙ go (node 
     go (Filter j s) = refl
     go (Join a b k) = refl
 
-profile_same : (l : Layout) (f g : ℕ → Profile) (x : Node) → All (λ j. f j ≡ g j) (operands x) → profile_by l f x ≡ profile_by l g x
+profile_same : (l : Layout) (f g : ℕ → Profile) (x : Node) → AllByRecursion (λ j. f j ≡ g j) (operands x) → profile_by l f x ≡ profile_by l g x
 profile_same l f g (Leaf r) h = refl
 profile_same l f g (Project j s) h = ap (λ p. shape.project p s) h.0
 profile_same l f g (Filter j s) h = ap (λ p. shape.filter p s) h.0
@@ -57,7 +57,7 @@ known_below : (l : Layout) → chart.Sound l → (r : ℕ) → 64 ≤ r → is_s
 known_below l sound r past = ap is_some (slice_get_past l.homes r (omega (arith, sound.few_relations)))
 
 module _ (l : Layout) (sound : chart.Sound l) (p q : ℕ → Bool) (same : (r : ℕ) → r < 64 → p r ≡ q r) (f g : ℕ → Profile) where
-  kind_same : (x : Node) → All (λ j. f j ≡ g j) (operands x) → kind_fits l p f x ≡ kind_fits l q g x
+  kind_same : (x : Node) → AllByRecursion (λ j. f j ≡ g j) (operands x) → kind_fits l p f x ≡ kind_fits l q g x
   kind_same (Leaf r) h = go (cases_lt r 64)
     where
       go : (r < 64) ⊎ (64 ≤ r) → (is_some (server_of l r) && not (p r)) ≡ (is_some (server_of l r) && not (q r))
@@ -69,7 +69,7 @@ module _ (l : Layout) (sound : chart.Sound l) (p q : ℕ → Bool) (same : (r : 
   kind_same (Filter j s) h = ap (λ (v : Profile). attributes_fit s v.shown) h.0
   kind_same (Join a b k) h = ap₂ (λ (v w : Profile). is_some (orient_answer l v.shown w.shown k)) h.0 h.1.0
 
-all_same : (f g : ℕ → Profile) (i : ℕ) → ((k : ℕ) → k < i → f k ≡ g k) → (js : List ℕ) → All (λ j. j < i) js → All (λ j. f j ≡ g j) js
+all_same : (f g : ℕ → Profile) (i : ℕ) → ((k : ℕ) → k < i → f k ≡ g k) → (js : List ℕ) → AllByRecursion (λ j. j < i) js → AllByRecursion (λ j. f j ≡ g j) js
 all_same f g i known [] h = tt
 all_same f g i known (j ∷ js) h = (known j h.0, all_same f g i known js h.1)
 
@@ -138,7 +138,7 @@ module _ (l : Layout) (sound : chart.Sound l) (nodes : List Node) (i : ℕ) (few
           let t = profile_by l f (node nodes i) in
           sym (passed_on t tt (questions_at l nodes i) (questions_from l nodes (i + 1) (length nodes - (i + 1))) p (sym (kept_asked t) ∙ sym h)) ∙ split
 
-      earlier_at : All (λ j. j < i) (operands (node nodes i))
+      earlier_at : AllByRecursion (λ j. j < i) (operands (node nodes i))
       earlier_at =
           let x = node nodes i in
           let qs = all_yes (node_questions l used stands f i x) (profile_by l f x) p (sym h) in

@@ -1,6 +1,6 @@
 -- What the questions leave true of a list of nodes.
 use Rattle.std.specs.Prelude.{◌≡◌, ℕ, ◌+◌, ◌<◌, true, List, length, is_some, Some}
-use Rattle.std.specs.List.{AllByRecursion as All}
+use Rattle.std.specs.List.{AllByRecursion}
 use Rattle.chart.specs.Layout.{Layout}
 use Rattle.chart.specs.Lookup.{server_of}
 use Rattle.profile.specs.Joins.{orient_answer}
@@ -27,7 +27,7 @@ Apart (Join a b k) = a ≡ b → ⊥
 pub record Sound (l : Layout) (nodes : List Node) : Type 0 where
   pub some : 0 < length nodes
   pub few : length nodes < 64
-  pub earlier : (i : ℕ) → i < length nodes → All (λ j. j < i) (operands (node nodes i))
+  pub earlier : (i : ℕ) → i < length nodes → AllByRecursion (λ j. j < i) (operands (node nodes i))
   pub once : (j a b : ℕ) → a < length nodes → b < length nodes → uses j (node nodes a) ≡ true → uses j (node nodes b) ≡ true → a ≡ b
   pub apart : (i : ℕ) → i < length nodes → Apart (node nodes i)
   pub used : (j : ℕ) → j + 1 < length nodes → (a : ℕ) × (a < length nodes) × (uses j (node nodes a) ≡ true)

@@ -1,5 +1,5 @@
 ghost use Rattle.std.specs.Prelude.{◌≡◌, ℕ, ◌-◌, ◌<◌, ◌≤◌, true, ◌||◌, [], ◌∷◌, length, get_or, IfOk, if◌then◌else◌, Some, None, OnOk, ◌==◌, slice_index_or};
-ghost use Rattle.std.specs.List.{AllByRecursion as All};
+ghost use Rattle.std.specs.List.{AllByRecursion};
 ghost use Rattle.sets.specs.Sets.{has};
 ghost use Rattle.chart.specs.Questions.{asked};
 ghost use Rattle.chart.specs.Charts.{layout};
@@ -85,7 +85,7 @@ fn profile_of_node(
     relations: SmallSet,
     profiles: &[Profile],
 ) -> Option<Profile>
-    requires { All (λ j. j < length profiles.now) (operands node) }
+    requires { AllByRecursion (λ j. j < length profiles.now) (operands node) }
     ensures { result ≡ (if kind_fits (layout chart.now) (has relations) (λ j. get_or profiles.now j blank) node then Some (profile_by (layout chart.now) (λ j. get_or profiles.now j blank) node) else None) }
 {
     match node {

@@ -1,6 +1,6 @@
 -- The table, row by row.
 use Rattle.std.proofs.Common.{◌≡◌, ℕ, ◌+◌, ◌*◌, ◌<◌, Bool, List, [], ◌∷◌, is_some, Option, sym, refl, ap, ◌∙◌, ap₂, ⊎_elim, arith}
-use Rattle.std.specs.List.{AllByRecursion as All}
+use Rattle.std.specs.List.{AllByRecursion}
 use Rattle.std.proofs.lemmas.Bool.{cases_lt}
 use Rattle.chart.specs.Layout.{Layout}
 use Rattle.profile.specs.declared.shape.Profile.{Profile}
@@ -20,12 +20,12 @@ use Rattle.search.specs.Sources.{Joinable}
 use Rattle.search.proofs.RowSteps.{row_ends, place_like}
 
 -- the operands of a node, with what is known of each node before it
-pub all_before : (Q : ℕ → Type 0) (i : ℕ) → ((j : ℕ) → j < i → Q j) → (js : List ℕ) → All (λ j. j < i) js → All Q js
+pub all_before : (Q : ℕ → Type 0) (i : ℕ) → ((j : ℕ) → j < i → Q j) → (js : List ℕ) → AllByRecursion (λ j. j < i) js → AllByRecursion Q js
 all_before Q i h [] a = tt
 all_before Q i h (j ∷ js) a = (h j a.0, all_before Q i h js a.1)
 
 -- a node's place, by the right profiles
-profiles_like : {P : Type 0} (c : Pricing P) (may : ℕ → Profile → Bool) (n : ℕ) (l : Layout) (f g : ℕ → Profile) (x : Node) (T : ℕ → ℕ → Option (Place P)) (s : ℕ) → All (λ j. f j ≡ g j) (operands x)
+profiles_like : {P : Type 0} (c : Pricing P) (may : ℕ → Profile → Bool) (n : ℕ) (l : Layout) (f g : ℕ → Profile) (x : Node) (T : ℕ → ℕ → Option (Place P)) (s : ℕ) → AllByRecursion (λ j. f j ≡ g j) (operands x)
     → place_from c may n l f x T s ≡ place_from c may n l g x T s
 profiles_like c may n l f g (Leaf r) T s h = refl
 profiles_like c may n l f g (Project j a) T s h = refl
@@ -46,7 +46,7 @@ module _ {P : Type 0} (c : Pricing P) (may : ℕ → Profile → Bool) (l : Layo
   filled_none = record { sized = refl; rows = λ k s h b. absurd (omega arith); later = λ k h. refl }
 
   -- one more row is filled
-  pub filled_more : (f : ℕ → Profile) (i : ℕ) (t new : List (Option (Place P))) → All (λ j. j < i) (operands (node nodes i)) → ((k : ℕ) → k < i → f k ≡ node_profile l nodes k)
+  pub filled_more : (f : ℕ → Profile) (i : ℕ) (t new : List (Option (Place P))) → AllByRecursion (λ j. j < i) (operands (node nodes i)) → ((k : ℕ) → k < i → f k ≡ node_profile l nodes k)
       → Filled c may l nodes i old t → Row l.servers i l.servers (place_from c may l.servers l f (node nodes i) (place_at t l.servers)) t new → Filled c may l nodes (i + 1) old new
   filled_more f i t new earlier known filled r =
       let n = l.servers in
@@ -65,7 +65,7 @@ module _ {P : Type 0} (c : Pricing P) (may : ℕ → Profile → Bool) (l : Layo
       }
 
 -- what a sound query's node needs to be filled
-pub joinable : (l : Layout) (nodes : List Node) (f : ℕ → Profile) (i : ℕ) (x : Node) → All (λ j. j < i) (operands x) → ((k : ℕ) → k < i → f k ≡ node_profile l nodes k) → Placed l nodes x → Joinable l f x
+pub joinable : (l : Layout) (nodes : List Node) (f : ℕ → Profile) (i : ℕ) (x : Node) → AllByRecursion (λ j. j < i) (operands x) → ((k : ℕ) → k < i → f k ≡ node_profile l nodes k) → Placed l nodes x → Joinable l f x
 joinable l nodes f i (Leaf r) a known h = tt
 joinable l nodes f i (Project j s) a known h = tt
 joinable l nodes f i (Filter j s) a known h = tt

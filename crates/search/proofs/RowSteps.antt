@@ -1,6 +1,6 @@
 -- A row of the table, place by place.
 use Rattle.std.proofs.Common.{◌≡◌, ℕ, ◌+◌, ◌*◌, ◌<◌, ◌≤◌, Bool, List, [], ◌∷◌, length, get_or, set, None, Option, refl, ap, ◌∙◌, ap₂, arith, length-set, below_more}
-use Rattle.std.specs.List.{AllByRecursion as All}
+use Rattle.std.specs.List.{AllByRecursion}
 use Rattle.std.proofs.lemmas.List.{get_or-set_same, get_or-set_other}
 use Rattle.std.proofs.lemmas.Nat.{mul-le}
 use Rattle.chart.specs.Layout.{Layout}
@@ -49,19 +49,19 @@ module _ {P : Type 0} (n node : ℕ) (f : ℕ → Option (Place P)) (old : List 
 
 -- a node's place depends on those of its operands at known servers
 pub place_like : {P : Type 0} (c : Pricing P) (may : ℕ → Profile → Bool) (n : ℕ) (l : Layout) (f : ℕ → Profile) (x : Node) (T U : ℕ → ℕ → Option (Place P)) (s : ℕ) → s < n
-    → All (λ j. (u : ℕ) → u < n → T j u ≡ U j u) (operands x) → place_from c may n l f x T s ≡ place_from c may n l f x U s
+    → AllByRecursion (λ j. (u : ℕ) → u < n → T j u ≡ U j u) (operands x) → place_from c may n l f x T s ≡ place_from c may n l f x U s
 place_like c may n l f (Leaf r) T U s b h = refl
 place_like c may n l f (Project j a) T U s b h = ap (kept s) (h.0 s b)
 place_like c may n l f (Filter j a) T U s b h = ap (kept s) (h.0 s b)
 place_like c may n l f (Join a d k) T U s b h = best_like c may n (between l (f a) (f d) k) (T a) (T d) (U a) (U d) h.0 h.1.0 s b
 
-all_kept : {P : Type 0} (n node : ℕ) (T U : ℕ → ℕ → Option (Place P)) → ((j u : ℕ) → j < node → u < n → T j u ≡ U j u) → (js : List ℕ) → All (λ j. j < node) js → All (λ j. (u : ℕ) → u < n → T j u ≡ U j u) js
+all_kept : {P : Type 0} (n node : ℕ) (T U : ℕ → ℕ → Option (Place P)) → ((j u : ℕ) → j < node → u < n → T j u ≡ U j u) → (js : List ℕ) → AllByRecursion (λ j. j < node) js → AllByRecursion (λ j. (u : ℕ) → u < n → T j u ≡ U j u) js
 all_kept n node T U h [] a = tt
 all_kept n node T U h (j ∷ js) a = (λ u b. h j u a.0 b, all_kept n node T U h js a.1)
 
 -- a turn of the loop over the servers of a row
 pub row_turn : {P : Type 0} (c : Pricing P) (may : ℕ → Profile → Bool) (n : ℕ) (l : Layout) (f : ℕ → Profile) (x : Node) (node i : ℕ) (old t new : List (Option (Place P))) (p : Option (Place P))
-    → All (λ j. j < node) (operands x) → i < n → node * n + n ≤ length old
+    → AllByRecursion (λ j. j < node) (operands x) → i < n → node * n + n ≤ length old
     → Row n node i (place_from c may n l f x (place_at old n)) old t → p ≡ place_from c may n l f x (place_at t n) i → new ≡ set t (node * n + i) p
     → Row n node (i + 1) (place_from c may n l f x (place_at old n)) old new
 row_turn c may n l f x node i old t new p earlier below room r e w =

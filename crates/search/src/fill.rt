@@ -1,5 +1,5 @@
 ghost use Rattle.std.specs.Prelude.{◌≡◌, ℕ, ◌*◌, ◌<◌, ◌≤◌, length, slice_index_or};
-ghost use Rattle.std.specs.List.{AllByRecursion as All};
+ghost use Rattle.std.specs.List.{AllByRecursion};
 ghost use Rattle.chart.specs.Charts.{layout};
 ghost use Rattle.queries.specs.Flat.{operands, blank};
 ghost use Rattle.queries.specs.Questions.{node_profile};

@@ -1,5 +1,5 @@
 ghost use Rattle.std.specs.Prelude.{◌≡◌, ℕ, ◌+◌, ◌*◌, ◌<◌, ◌≤◌, Bool, true, length, slice_index_or};
-ghost use Rattle.std.specs.List.{AllByRecursion as All};
+ghost use Rattle.std.specs.List.{AllByRecursion};
 ghost use Rattle.chart.specs.Layout.{Layout};
 ghost use Rattle.chart.specs.Charts.{layout};
 ghost use Rattle.profile.specs.declared.shape.Profile.{Profile as Shape};
@@ -85,7 +85,7 @@ pub(crate) fn fill_row<T: Tariff>(
     table: &mut Table<T::Price>,
 )
     requires { node * table.old.servers + table.old.servers ≤ length table.old.places.now }
-    ensures row { (l : Layout) (may : ℕ → Shape → Bool) (f : ℕ → Shape) (x : Part) → Sourced l may table.old.servers f x source.now → All (λ j. j < node) (used x) → Row table.old.servers node table.old.servers (place_from (pricing_of T.Tariff.free T.Tariff.sum T.Tariff.leq T.Tariff.release tariff.now) may table.old.servers l f x (place_at table.old.places.now table.old.servers)) table.old.places.now table.new.places.now }
+    ensures row { (l : Layout) (may : ℕ → Shape → Bool) (f : ℕ → Shape) (x : Part) → Sourced l may table.old.servers f x source.now → AllByRecursion (λ j. j < node) (used x) → Row table.old.servers node table.old.servers (place_from (pricing_of T.Tariff.free T.Tariff.sum T.Tariff.leq T.Tariff.release tariff.now) may table.old.servers l f x (place_at table.old.places.now table.old.servers)) table.old.places.now table.new.places.now }
     ensures servers { table.new.servers ≡ table.old.servers }
     ensures lent { table.new.places.ghost_name ≡ table.old.places.ghost_name }
 {
@@ -97,7 +97,7 @@ pub(crate) fn fill_row<T: Tariff>(
 
 // Where the places of a node come from; the policy is asked here.
 pub(crate) fn source_of<P: Policy>(policy: &P, node: Node, profiles: &[Profile]) -> Source
-    requires earlier { All (λ j. j < length profiles.now) (used node) }
+    requires earlier { AllByRecursion (λ j. j < length profiles.now) (used node) }
     requires joins { Joinable (layout (P.Policy.charted policy.now)) (λ j. slice_index_or profiles.now j blank) node }
     ensures { Sourced (layout (P.Policy.charted policy.now)) (P.Policy.reading policy.now (P.Policy.rules policy.now)) (layout (P.Policy.charted policy.now)).servers (λ j. slice_index_or profiles.now j blank) node result }
 {

@@ -1,7 +1,7 @@
 -- Laws of sets, from those of bits.
 use Rattle.std.proofs.Common.{◌≡◌, ℕ, zero, suc, ◌+◌, ◌-◌, ◌<◌, ◌≤◌, Bool, true, false, cond, ◌&&◌, ◌||◌, eqb, ◌⊎◌, List, [], ◌∷◌, Decides, sym, refl, ap, ◌∙◌, inl, inr, add-one, arith}
 use lib.Bits.{bit_and}
-use Rattle.std.specs.List.{ContainsAt as Has, AllByRecursion as All}
+use Rattle.std.specs.List.{ContainsAt as Has, AllByRecursion}
 use Rattle.std.proofs.ByRecursion.{All-weaker, all-has}
 use Rattle.std.proofs.lemmas.Bool.{eqb-true, eq-eqb, or_cases, or_left, and_parts, and_from, cases_eq, both_ways}
 use Rattle.sets.specs.declared.small_set.SmallSet.{SmallSet}
@@ -128,7 +128,7 @@ members_past s from h =
     ap (rising (has s) from) e
 
 module _ (p : ℕ → Bool) where
-  pub rising_all : (n from : ℕ) → All (λ i. (from ≤ i) × (i < from + n) × (p i ≡ true)) (rising p from n)
+  pub rising_all : (n from : ℕ) → AllByRecursion (λ i. (from ≤ i) × (i < from + n) × (p i ≡ true)) (rising p from n)
   unfolding rising
   rising_all zero from = tt
   rising_all (suc n) from =
@@ -136,8 +136,8 @@ module _ (p : ℕ → Bool) where
       (λ i h. (omega (arith, h.0), omega (arith, h.1, add-one n), h.2)) (rising p (from + 1) n) (rising_all n (from + 1)) in
       go (p from) refl rest
     where
-      go : (b : Bool) → p from ≡ b → All (λ i. (from ≤ i) × (i < from + suc n) × (p i ≡ true)) (rising p (from + 1) n)
-          → All (λ i. (from ≤ i) × (i < from + suc n) × (p i ≡ true)) (cond b (from ∷ rising p (from + 1) n) (rising p (from + 1) n))
+      go : (b : Bool) → p from ≡ b → AllByRecursion (λ i. (from ≤ i) × (i < from + suc n) × (p i ≡ true)) (rising p (from + 1) n)
+          → AllByRecursion (λ i. (from ≤ i) × (i < from + suc n) × (p i ≡ true)) (cond b (from ∷ rising p (from + 1) n) (rising p (from + 1) n))
       go true e rest = ((omega arith, omega (arith, add-one n), e), rest)
       go false e rest = rest
 

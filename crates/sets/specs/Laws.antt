@@ -1,6 +1,6 @@
 -- What the definitions of sets mean, said by membership.
 use Rattle.std.specs.Prelude.{◌≡◌, ℕ, ◌<◌, true, false, ◌||◌, List, [], ◌∷◌, Decides, ◌==◌, ◌≢◌, nat_lt}
-use Rattle.std.specs.List.{ContainsAt as Has, AllByRecursion as All}
+use Rattle.std.specs.List.{ContainsAt as Has, AllByRecursion}
 use Rattle.sets.specs.declared.small_set.SmallSet.{SmallSet}
 use Rattle.sets.specs.Sets.{has, none, single, union, subset, disjoint, same, below, members}
 
@@ -11,7 +11,7 @@ Within s t = (i : ℕ) → has s i ≡ true → has t i ≡ true
 -- each number of the list is below all that follow it
 abbrev pub Rises : List ℕ → Type 0
 Rises [] = Unit {0}
-Rises (x ∷ xs) = All (λ y. x < y) xs × Rises xs
+Rises (x ∷ xs) = AllByRecursion (λ y. x < y) xs × Rises xs
 
 pub record Laws : Type 0 where
   -- sets with the same members are equal
@@ -34,5 +34,5 @@ pub record Laws : Type 0 where
   pub subset_antisym : (s t : SmallSet) → subset s t ≡ true → subset t s ≡ true → s ≡ t
   -- the list of a set's numbers has just those, each once and in rising order
   pub members_have : (s : SmallSet) (i : ℕ) → i < 64 → Decides (has s i) (Has (members s) i)
-  pub members_below : (s : SmallSet) → All (λ i. i < 64) (members s)
+  pub members_below : (s : SmallSet) → AllByRecursion (λ i. i < 64) (members s)
   pub members_rise : (s : SmallSet) → Rises (members s)
