@@ -57,9 +57,9 @@ impl Policy for ExactBook {
 impl Book for ExactBook {
     ghost fits = { λ b. exact_fits };
 
-    ghost lone = { first_of (Prim.search rules, Prim.grind (arith, Self.row.coded.inj)) };
+    ghost lone = { Prim.search rules };
 
-    ghost less = { first_of (Prim.search rules, Prim.grind (arith, Self.row.coded.inj)) };
+    ghost less = { Prim.search rules };
 
     ghost alike = { λ s xs ys h. ap (λ n. nat_le n 64) (same_length h) };
 

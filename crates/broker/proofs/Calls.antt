@@ -106,11 +106,11 @@ judging chart fits rules reading lawful c nodes work work' plan plan' releases r
 -- the same standing rules, the same judgment
 pub alike : {P : Type 0} (chart chart' : Chart) (fits fits' : List RuleRecord → Bool) (reading reading' : Reading) (rules rules' : List RuleRecord) (c : Pricing P)
     → Lawful chart rules reading → Lawful chart' rules' reading' → JudgedAlike chart chart' fits fits' reading reading' rules rules' c
-alike chart chart' fits fits' reading reading' rules rules' c lawful lawful' first first' t t' was was' to from one-chart one-reading nodes work plan releases =
+alike chart chart' fits fits' reading reading' rules rules' c lawful lawful' first first' t t' was was' to from one_chart one_reading nodes work plan releases =
     let same = same_from_members rules rules' lawful.distinct lawful'.distinct
     (λ r h. stands_in_force (layout chart') fits' rules' first' t' was' r (to r (in_force_stands (layout chart) fits rules first t was r h)))
     (λ r h. stands_in_force (layout chart) fits rules first t was r (from r (in_force_stands (layout chart') fits' rules' first' t' was' r h))) in
-    let e : reading rules ≡ reading' rules' = reading_same chart rules reading lawful rules' same ∙ ap (λ (x : Reading). x rules') one-reading in
+    let e : reading rules ≡ reading' rules' = reading_same chart rules reading lawful rules' same ∙ ap (λ (x : Reading). x rules') one_reading in
     record {
       answers = ap (λ (may : ℕ → Profile → Bool). query_answer c may (layout chart) nodes work plan releases) e;
       table = ap (λ (may : ℕ → Profile → Bool). work_after c may (layout chart) nodes work plan releases) e;

@@ -53,10 +53,10 @@ kept_from l slots table n sized wide distinct formed h = record {
 
 -- what is kept of values is kept where they are stored
 pub kept_stored : (l : Layout) (slots others : List (Option Rule)) (table grown : List View) (count n : ℕ) → slots ≡ others → table ≡ grown → count ≡ n → Kept l others grown n → Kept l slots table count
-kept_stored l slots others table grown count n same-slots same-table same_count k =
+kept_stored l slots others table grown count n same_slots same_table same_count k =
     subst (λ (c : ℕ). Kept l slots table c) (sym same_count)
-    (subst (λ (t : List View). Kept l slots t n) (sym same-table)
-    (subst (λ (s : List (Option Rule)). Kept l s grown n) (sym same-slots) k))
+    (subst (λ (t : List View). Kept l slots t n) (sym same_table)
+    (subst (λ (s : List (Option Rule)). Kept l s grown n) (sym same_slots) k))
 
 -- one more rule, in other slots
 module _ (c : Chart) (rules after : List RuleRecord) (r : RuleRecord) (same : Same after (r ∷ rules)) where

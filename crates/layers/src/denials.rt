@@ -109,11 +109,11 @@ impl<P: Policy> Policy for Denials<P> {
 impl<B: Book> Book for Denials<B> {
     ghost fits = { λ d xs. B.Book.fits d.below xs };
 
-    ghost lone = { first_of (Prim.search rules, Prim.grind (arith, Self.row.coded.inj)) };
+    ghost lone = { Prim.search rules };
 
-    ghost less = { first_of (Prim.search rules, Prim.grind (arith, Self.row.coded.inj)) };
+    ghost less = { Prim.search rules };
 
-    ghost alike = { first_of (Prim.search rules, Prim.grind (arith, Self.row.coded.inj)) };
+    ghost alike = { Prim.search rules };
 
     fn enter(&mut self, given: RuleRecord) -> Result<(), BookRefusal> {
         self.below.enter(given)

@@ -138,9 +138,9 @@ impl Policy for SingleRuleBook {
 impl Book for SingleRuleBook {
     ghost fits = { λ b. one_fits };
 
-    ghost lone = { first_of (Prim.search rules, Prim.grind (arith, Self.row.coded.inj)) };
+    ghost lone = { Prim.search rules };
 
-    ghost less = { first_of (Prim.search rules, Prim.grind (arith, Self.row.coded.inj)) };
+    ghost less = { Prim.search rules };
 
     ghost alike = { λ s xs ys h. ap (λ n. nat_le n 1) (same_length h) };
 
