@@ -1,4 +1,4 @@
--- The exact reading keeps the laws of a policy, over any well_formed rules of distinct numbers.
+-- The exact reading keeps the laws of a policy, over any well-formed rules of distinct numbers.
 use Rattle.std.specs.Prelude.{◌≡◌, true, List}
 use Rattle.chart.specs.declared.state.Chart.{Chart}
 use Rattle.chart.specs.Charts.{layout}

@@ -17,7 +17,7 @@ use Rattle.policy.specs.Books.{apart}
 use Rattle.policy.specs.Lawful.{Lawful}
 use Rattle.policy.proofs.Orders.{same_exact}
 
--- what a well_formed rule names is known
+-- what a well-formed rule names is known
 pub rule_parts : (l : Layout) (r : RuleRecord) → well_formed l r ≡ true → (server_known l r.view.server ≡ true) × (attributes_known l r.view.attributes ≡ true) × (links_known l r.view.path ≡ true)
 unfolding path_joins
 rule_parts l r formed =
@@ -29,7 +29,7 @@ rule_parts l r formed =
     let q4 = and_parts (path_joins l v) true q3.1 in
     (q2.0, (and_parts (attributes_known l v.attributes) (not (same v.attributes none)) q3.0).0, (and_parts (links_known l v.path) (tree l v.attributes v.path) q4.0).0)
 
--- what the view of a well_formed rule lets a server see lies inside the chart
+-- what the view of a well-formed rule lets a server see lies inside the chart
 module _ (l : Layout) (server : ℕ) (p : Profile) where
   pub view_inside : (v : View) → server_known l v.server ≡ true → attributes_known l v.attributes ≡ true → links_known l v.path ≡ true → view_lets server p v ≡ true → inside l server p ≡ true
   view_inside v known attributes links lets =
