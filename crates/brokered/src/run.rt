@@ -7,6 +7,7 @@ use composed::AnyBook;
 use layers::{Carrier, Denials};
 use profile::Profile;
 use queries::Node;
+use rules::RuleRecord;
 use sample::rule;
 use sets::SmallSet;
 use tariff::ByteTariff;
@@ -43,14 +44,52 @@ fn show_answer(rt: &HostRuntime, answer: &Answer<u32>) -> anyhow::Result<()> {
     Ok(())
 }
 
-// Enters, queries, withdraws and queries again, in one run of calls.
-pub fn show_run(rt: &HostRuntime, chart: Chart) -> anyhow::Result<()> {
+// The rules of the run: server 1 may see relation 0; server 0 may see 0 and relation 1, joined over link 0; server 1 may see 0.
+fn run_rules(chart: &Chart) -> anyhow::Result<[RuleRecord; 3]> {
     let none = SmallSet::empty();
     let Some(zero) = SmallSet::single(0) else {
         return Err(anyhow!("a set was refused"));
     };
     let whole = chart.attributes_of(0);
     let reply = chart.attributes_of(1).union(zero);
+    Ok([
+        rule(1, 1, whole, none),
+        rule(2, 0, reply, zero),
+        rule(3, 1, zero, none),
+    ])
+}
+
+// Makes the calls, with buffers for three nodes and three servers.
+fn make_calls(
+    broker: &mut Broker<Stack>,
+    tariff: &ByteTariff,
+    calls: &[Call],
+    answers: &mut [Answer<u32>],
+) -> anyhow::Result<()> {
+    let none = SmallSet::empty();
+    let mut work = [None; 9];
+    let mut plan = [Step {
+        executor: 0,
+        mode: Mode::Local,
+    }; 3];
+    let mut releases = [Release {
+        sender: 0,
+        receiver: 0,
+        profile: Profile {
+            shown: none,
+            path: none,
+            filtered: none,
+        },
+    }; 3];
+    let Ok(()) = broker.run(tariff, calls, answers, &mut work, &mut plan, &mut releases) else {
+        return Err(anyhow!("the run was refused"));
+    };
+    Ok(())
+}
+
+// Enters, queries, withdraws and queries again, in one run of calls.
+pub fn show_run(rt: &HostRuntime, chart: Chart) -> anyhow::Result<()> {
+    let [whole, reply, column] = run_rules(&chart)?;
     let nodes = [
         Node::Leaf { relation: 0 },
         Node::Leaf { relation: 1 },
@@ -61,43 +100,18 @@ pub fn show_run(rt: &HostRuntime, chart: Chart) -> anyhow::Result<()> {
         },
     ];
     let calls = [
-        Call::Enter(rule(1, 1, whole, none)),
+        Call::Enter(whole),
         Call::Query(&nodes),
         Call::Withdraw(1),
         Call::Query(&nodes),
-        Call::Enter(rule(2, 0, reply, zero)),
-        Call::Enter(rule(3, 1, zero, none)),
+        Call::Enter(reply),
+        Call::Enter(column),
         Call::Query(&nodes),
         Call::Withdraw(1),
     ];
     let mut answers: [Answer<u32>; 8] = [Answer::Booked(Ok(())); 8];
-    let mut work = [None; 9];
-    let mut plan = [Step {
-        executor: 0,
-        mode: Mode::Local,
-    }; 3];
-    let blank = Profile {
-        shown: none,
-        path: none,
-        filtered: none,
-    };
-    let mut releases = [Release {
-        sender: 0,
-        receiver: 0,
-        profile: blank,
-    }; 3];
     let mut broker = open_sample(chart)?;
-    let tariff = ByteTariff::new(chart);
-    let Ok(()) = broker.run(
-        &tariff,
-        &calls,
-        &mut answers,
-        &mut work,
-        &mut plan,
-        &mut releases,
-    ) else {
-        return Err(anyhow!("the run was refused"));
-    };
+    make_calls(&mut broker, &ByteTariff::new(chart), &calls, &mut answers)?;
     for answer in &answers {
         show_answer(rt, answer)?;
     }

@@ -1,2 +1,0 @@
-pub mod Query
-pub mod Worked
