@@ -1,5 +1,5 @@
 // How exposed the line between two servers is, in rising order.
-#[derive(Clone, Copy, PartialEq, Eq)]
+#[derive(Clone, Copy, PartialEq, Eq, PartialOrd, Ord)]
 pub enum Grade {
     Quay,
     Leased,

@@ -6,7 +6,7 @@ use chart::Chart;
 use sets::SmallSet;
 
 // What a result tells: the attributes it shows, the links it was joined over, the attributes it was filtered by.
-#[derive(Clone, Copy, PartialEq, Eq)]
+#[derive(Clone, Copy, Default, PartialEq, Eq)]
 pub struct Profile {
     pub shown: SmallSet,
     pub path: SmallSet,

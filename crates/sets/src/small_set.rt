@@ -3,7 +3,7 @@ ghost use Rattle.sets.specs.Bits.{bit, rising};
 ghost use Rattle.sets.specs.Sets.{has, none, single_answer, insert_answer, union, subset, disjoint, same, below_answer, count};
 
 // A set of numbers below 64. What it means is which numbers it has.
-#[derive(Clone, Copy, PartialEq, Eq)]
+#[derive(Clone, Copy, Default, PartialEq, Eq)]
 pub struct SmallSet {
     bits: u64,
 }
