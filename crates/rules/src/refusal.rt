@@ -5,13 +5,13 @@ ghost use Rattle.rules.specs.Refusals.{refusal_number};
 #[derive(Clone, Copy, PartialEq, Eq)]
 pub enum RuleRefusal {
     // not a number from 1 to 999
-    Number,
+    Number = 20,
     // a server that is not known
-    Server,
+    Server = 21,
     // no attribute, or one that is not known
-    Attributes,
+    Attributes = 22,
     // a link that is not known, or a path that does not join the rule's relations into one tree
-    Path,
+    Path = 23,
 }
 
 impl RuleRefusal {
@@ -19,11 +19,6 @@ impl RuleRefusal {
     pub fn number(self) -> u16
         ensures { result ≡ refusal_number self }
     {
-        match self {
-            RuleRefusal::Number => 20,
-            RuleRefusal::Server => 21,
-            RuleRefusal::Attributes => 22,
-            RuleRefusal::Path => 23,
-        }
+        self as u16
     }
 }
