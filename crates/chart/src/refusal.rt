@@ -5,21 +5,21 @@ ghost use Rattle.chart.specs.Refusals.{refusal_number};
 #[derive(Clone, Copy, PartialEq, Eq)]
 pub enum ChartRefusal {
     // not 1 to 16 servers
-    Servers,
+    Servers = 10,
     // a relation at a server that is not known
-    Home,
+    Home = 11,
     // a relation without a width, or with a width of 0
-    Widths,
+    Widths = 12,
     // over 32 relations or 64 attributes
-    Limits,
+    Limits = 13,
     // a link whose ends are not two known attributes of different relations
-    Ends,
+    Ends = 14,
     // a 65th link
-    LinkLimit,
+    LinkLimit = 15,
     // a pair that is linked already, either way round
-    LinkRepeated,
+    LinkRepeated = 16,
     // a line whose servers are not two different known ones
-    Line,
+    Line = 17,
 }
 
 impl ChartRefusal {
@@ -27,15 +27,6 @@ impl ChartRefusal {
     pub fn number(self) -> u16
         ensures { result ≡ refusal_number self }
     {
-        match self {
-            ChartRefusal::Servers => 10,
-            ChartRefusal::Home => 11,
-            ChartRefusal::Widths => 12,
-            ChartRefusal::Limits => 13,
-            ChartRefusal::Ends => 14,
-            ChartRefusal::LinkLimit => 15,
-            ChartRefusal::LinkRepeated => 16,
-            ChartRefusal::Line => 17,
-        }
+        self as u16
     }
 }

@@ -1,20 +1,16 @@
 // A walk through the library on a small chart: three servers with a relation each, and two links.
 #![tactic(auto)]
 
-mod sample;
-mod text;
+mod parts;
 
-use crate::sample::{
-    Sets, Steps, repeated_link, sample_chart, sample_sets, sample_steps, worked_cases,
-};
-use crate::text::{ProfileText, SetText};
+use crate::parts::{Sets, Steps, repeated_link, sample_sets, sample_steps, worked_cases};
 use anyhow::anyhow;
 use chart::Chart;
 use composed::ComposedBook;
 use layers::{Carrier, Denial, Denials};
 use policy::{Book, BookRefusal, Policy};
 use profile::Profile;
-use rules::{RuleRecord, View};
+use sample::{ProfileText, SetText, rule, sample_chart};
 use sets::SmallSet;
 
 fn show_chart(rt: &HostRuntime, chart: &Chart) -> anyhow::Result<()> {
@@ -41,18 +37,6 @@ fn show_steps(rt: &HostRuntime, steps: &Steps) -> anyhow::Result<()> {
     println!(rt; "semi-join, left sends: {}", ProfileText(steps.column))?;
     println!(rt; "semi-join, left gets: {}", ProfileText(steps.reply))?;
     Ok(())
-}
-
-// A rule record.
-fn rule(number: u16, server: u16, attributes: SmallSet, path: SmallSet) -> RuleRecord {
-    RuleRecord {
-        number,
-        view: View {
-            server,
-            attributes,
-            path,
-        },
-    }
 }
 
 // Says what became of a call.

@@ -9,7 +9,7 @@ use Rattle.assignments.specs.Cheapest.{cheapest}
 use Rattle.search.specs.Root.{empty_row, first_of}
 use Rattle.search.specs.Outcomes.{outcome_of}
 use Rattle.planner.specs.Plans.{entailed}
-use Rattle.tour.proofs.sample.worked_cases.Goals as goal
+use Rattle.tour.proofs.parts.worked_cases.Goals as goal
 
 pub returns : goal.returns
 unfolding bare rising bridges share_none composes composition compositions with_new round rounds members forest tree_of used_by stands_in node_profile questions_from uses_from cheapest empty_row first_of outcome_of entailed

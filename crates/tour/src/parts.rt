@@ -1,32 +1,12 @@
 ghost use Rattle.std.specs.Prelude.{◌≡◌, Some};
-ghost use Rattle.chart.specs.Build.{laid_out, link_answer};
+ghost use Rattle.chart.specs.Build.{link_answer};
 ghost use Rattle.chart.specs.Charts.{layout};
-ghost use Rattle.tour.specs.Sample.{sample_answer, steps_of, refusal_of, sets_of_tour};
+ghost use Rattle.tour.specs.Parts.{steps_of, refusal_of, sets_of_tour};
 ghost use Rattle.tour.specs.Worked.{Worked};
 
-use chart::{Chart, ChartRefusal};
+use chart::Chart;
 use profile::{Join, Profile, Side};
 use sets::SmallSet;
-
-// Declares the sample chart part by part.
-fn declare() -> Result<Chart, ChartRefusal>
-    ensures { laid_out result ≡ sample_answer }
-{
-    let mut chart = Chart::new(3)?;
-    chart.add_relation(0, &[4, 8, 4])?;
-    chart.add_relation(1, &[4, 6])?;
-    chart.add_relation(2, &[4, 10])?;
-    chart.add_link(0, 3)?;
-    chart.add_link(3, 5)?;
-    Ok(chart)
-}
-
-// Three servers with a relation each, and two links.
-pub fn sample_chart() -> Result<Chart, ChartRefusal>
-    ensures { laid_out result ≡ sample_answer }
-{
-    declare()
-}
 
 // The profiles of a small query, from the leaves up.
 #[derive(Clone, Copy)]
@@ -91,10 +71,7 @@ pub fn sample_sets() -> Option<Sets>
 pub fn repeated_link(mut chart: Chart) -> Option<u16>
     ensures { result ≡ refusal_of (link_answer (layout chart) 3 0) }
 {
-    match chart.add_link(3, 0) {
-        Ok(_) => None,
-        Err(refusal) => Some(refusal.number()),
-    }
+    chart.add_link(3, 0).err().map(|refusal| refusal.number())
 }
 
 // The worked cases: the contract is the list of them.

@@ -1,27 +1,17 @@
--- The chart and the query of the tour.
+-- The query of the tour, its sets and its refusal.
 use Rattle.std.specs.Prelude.{ℕ, List, [], ◌∷◌, Some, None, Ok, Err, Option, Result}
-use Rattle.sets.specs.declared.small_set.SmallSet.{SmallSet}
-use Rattle.sets.specs.Sets.{none, single, union}
+use Rattle.sets.specs.Sets.{single, union}
 use Rattle.chart.specs.declared.refusal.ChartRefusal.{ChartRefusal}
 use Rattle.chart.specs.Refusals.{refusal_number}
 use Rattle.chart.specs.Layout.{Layout}
-use Rattle.chart.specs.Build.{bare, with_relation, with_link}
 use Rattle.profile.specs.declared.shape.Profile.{Profile}
 use Rattle.profile.specs.declared.join.Join.{Join}
 use Rattle.profile.specs.declared.join.Side.TheVariants.{Left}
 use Rattle.profile.specs.Profiles.{leaf_answer, project, filter}
 use Rattle.profile.specs.Joins.{join_answer, joined, column, reply}
-use Rattle.tour.specs.declared.sample.Steps.{Steps}
-use Rattle.tour.specs.declared.sample.Sets.{Sets}
-
--- three servers; a relation of three, two and two attributes at each; links 0=3 and 3=5
-abbrev pub sample : Layout
-sample =
-    with_link (with_link (with_relation (with_relation (with_relation (bare 3)
-    0 (4 ∷ 8 ∷ 4 ∷ [])) 1 (4 ∷ 6 ∷ [])) 2 (4 ∷ 10 ∷ [])) 0 3) 3 5
-
-abbrev pub sample_answer : Result Layout ChartRefusal
-sample_answer = Ok sample
+use Rattle.sample.specs.Parts.{set_of}
+use Rattle.tour.specs.declared.parts.Steps.{Steps}
+use Rattle.tour.specs.declared.parts.Sets.{Sets}
 
 -- a profile, if there is one, filtered by 2 and then projected on 0 and 1
 abbrev pub trimmed : Profile → Profile
@@ -52,11 +42,6 @@ steps_of l = steps_from l (leaf_answer l 0) (leaf_answer l 1)
 abbrev pub refusal_of : Result ℕ ChartRefusal → Option ℕ
 refusal_of (Ok n) = None
 refusal_of (Err e) = Some (refusal_number e)
-
--- the set of these numbers
-abbrev pub set_of : List ℕ → SmallSet
-set_of [] = none
-set_of (x ∷ xs) = union (single x) (set_of xs)
 
 -- the sets of the tour's rules and questions
 abbrev pub sets_of_tour : Sets
