@@ -14,6 +14,10 @@ any_append p (x ∷ xs) ys = go (p x) (any_append p xs ys)
     go true rest = refl
     go false rest = rest
 
+pub any_listed : {X : Type 0} (p : X → Bool) (xs : List X) → list_any p xs ≡ any_of p xs
+any_listed p [] = refl
+any_listed p (x ∷ xs) = ap (λ b. p x || b) (any_listed p xs)
+
 -- some item's views let the server see it, or the views of all items do
 pub exact_held : {T : Type 0} (views : T → List View) (items : List T) (server : ℕ) (p : Profile) → list_any (λ x. exact (views x) server p) items ≡ exact (flat_map views items) server p
 exact_held views [] server p = refl
