@@ -5,9 +5,9 @@ ghost use Rattle.layers.specs.Refusals.{refusal_number};
 #[derive(Clone, Copy, PartialEq, Eq)]
 pub enum LayerRefusal {
     // a carrier or a denial that names what the chart does not have, or a denial without an attribute
-    Unfit,
+    Unfit = 17,
     // a 33rd denial
-    TooMany,
+    TooMany = 18,
 }
 
 impl LayerRefusal {
@@ -15,9 +15,6 @@ impl LayerRefusal {
     pub fn number(self) -> u16
         ensures { result ≡ refusal_number self }
     {
-        match self {
-            LayerRefusal::Unfit => 17,
-            LayerRefusal::TooMany => 18,
-        }
+        self as u16
     }
 }

@@ -1,5 +1,6 @@
 ghost use Rattle.std.specs.Prelude.{◌≡◌};
 ghost use Rattle.policy.specs.Refusals.{refusal_number};
+ghost use Rattle.policy.specs.declared.refusal.BookRefusal.TheVariants.{Rule};
 
 use rules::RuleRefusal;
 
@@ -27,5 +28,13 @@ impl BookRefusal {
             BookRefusal::Full => 25,
             BookRefusal::NotInForce => 26,
         }
+    }
+}
+
+impl From<RuleRefusal> for BookRefusal {
+    ghost from_gives = { λ refusal answer. answer ≡ Rule refusal };
+
+    fn from(refusal: RuleRefusal) -> Self {
+        Self::Rule(refusal)
     }
 }

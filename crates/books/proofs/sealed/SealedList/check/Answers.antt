@@ -7,7 +7,7 @@ use Rattle.policy.specs.Books.{entry_answer, rules_after}
 use Rattle.books.specs.Slots.{held, exact_fits}
 use Rattle.books.specs.Sealed.{entered_from}
 use Rattle.books.proofs.Entering.{entered_formed, entered_apart, entered_stop, entered_on, entered_done}
-use Rattle.books.proofs.sealed.enter_all.Goals as goal
+use Rattle.books.proofs.sealed.SealedList.check.Goals as goal
 
 pub loop-record-init : goal.loop-record-init
 loop-record-init c =

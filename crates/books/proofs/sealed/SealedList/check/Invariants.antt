@@ -2,7 +2,7 @@ use Rattle.std.proofs.Common.{◌≡◌, drop}
 use Rattle.chart.specs.Charts.{layout}
 use Rattle.books.specs.Slots.{held}
 use Rattle.books.specs.Sealed.{entered_from, sealed_answer}
-use Rattle.books.proofs.sealed.enter_all.Given as goal
+use Rattle.books.proofs.sealed.SealedList.check.Given as goal
 
 -- the book is for this chart, and entering what is left into it decides
 abbrev pub invariant-loop-record : goal.invariant-loop-record
