@@ -10,7 +10,6 @@ ghost use Rattle.queries.specs.Sound.{Sound};
 ghost use Rattle.assignments.specs.Table.{kept};
 ghost use Rattle.search.specs.Rows.{place_at, leaf_place, place_from, Row, Filled};
 ghost use Rattle.search.specs.Sources.{Sourced, Joinable};
-ghost use Rattle.tariff.specs.Pricing.{pricing_of};
 
 use crate::options::{Operands, best_option};
 use crate::sends::{Sends, sends_of};
@@ -31,7 +30,7 @@ pub(crate) enum Source {
 
 // The place of a leaf at a server: it costs nothing at its relation's own, and is nowhere else.
 fn leaf_place<T: Tariff>(tariff: &T, home: Option<u16>, server: u16) -> Option<Place<T::Price>>
-    ensures { result ≡ leaf_place (pricing_of T.Tariff.free T.Tariff.sum T.Tariff.leq T.Tariff.release tariff.now) home server }
+    ensures { result ≡ leaf_place (T.pricing tariff.now) home server }
 {
     let Some(own) = home else {
         return None;
@@ -68,7 +67,7 @@ fn place_of<T: Tariff>(
     table: &Table<T::Price>,
 ) -> Option<Place<T::Price>>
     requires { server < table.now.servers }
-    ensures { (l : Layout) (may : ℕ → Shape → Bool) (f : ℕ → Shape) (x : Part) → Sourced l may table.now.servers f x source.now → result ≡ place_from (pricing_of T.Tariff.free T.Tariff.sum T.Tariff.leq T.Tariff.release tariff.now) may table.now.servers l f x (place_at table.now.places.now table.now.servers) server }
+    ensures { (l : Layout) (may : ℕ → Shape → Bool) (f : ℕ → Shape) (x : Part) → Sourced l may table.now.servers f x source.now → result ≡ place_from (T.pricing tariff.now) may table.now.servers l f x (place_at table.now.places.now table.now.servers) server }
 {
     match source {
         Source::Home(home) => leaf_place(tariff, *home, server),
@@ -85,7 +84,7 @@ pub(crate) fn fill_row<T: Tariff>(
     table: &mut Table<T::Price>,
 )
     requires { node * table.old.servers + table.old.servers ≤ length table.old.places.now }
-    ensures row { (l : Layout) (may : ℕ → Shape → Bool) (f : ℕ → Shape) (x : Part) → Sourced l may table.old.servers f x source.now → AllByRecursion (λ j. j < node) (used x) → Row table.old.servers node table.old.servers (place_from (pricing_of T.Tariff.free T.Tariff.sum T.Tariff.leq T.Tariff.release tariff.now) may table.old.servers l f x (place_at table.old.places.now table.old.servers)) table.old.places.now table.new.places.now }
+    ensures row { (l : Layout) (may : ℕ → Shape → Bool) (f : ℕ → Shape) (x : Part) → Sourced l may table.old.servers f x source.now → AllByRecursion (λ j. j < node) (used x) → Row table.old.servers node table.old.servers (place_from (T.pricing tariff.now) may table.old.servers l f x (place_at table.old.places.now table.old.servers)) table.old.places.now table.new.places.now }
     ensures servers { table.new.servers ≡ table.old.servers }
     ensures lent { table.new.places.ghost_name ≡ table.old.places.ghost_name }
 {

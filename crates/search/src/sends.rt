@@ -5,7 +5,6 @@ ghost use Rattle.profile.specs.declared.join.Join.{Join as Pair};
 ghost use Rattle.assignments.specs.Modes.{releases, allowed};
 ghost use Rattle.assignments.specs.Assignments.{own_price};
 ghost use Rattle.search.specs.Sends.{Told, Sent};
-ghost use Rattle.tariff.specs.Pricing.{pricing_of};
 
 use assignments::Mode;
 use policy::Policy;
@@ -97,7 +96,7 @@ pub(crate) fn price_of<T: Tariff>(
     left: u16,
     right: u16,
 ) -> T::Price
-    ensures { (may : ℕ → Shape → Bool) (n : ℕ) (j : Pair) → Sent may n j sends.now → result ≡ own_price (pricing_of T.Tariff.free T.Tariff.sum T.Tariff.leq T.Tariff.release tariff.now) (releases j mode left right) }
+    ensures { (may : ℕ → Shape → Bool) (n : ℕ) (j : Pair) → Sent may n j sends.now → result ≡ own_price (T.pricing tariff.now) (releases j mode left right) }
 {
     match mode {
         Mode::Local => tariff.nothing(),

@@ -1,7 +1,6 @@
-ghost use Rattle.std.specs.Prelude.{◌≡◌, Some, nat_le};
+ghost use Rattle.std.specs.Prelude.{◌≡◌};
 ghost use Rattle.chart.specs.Charts.{layout};
-ghost use Rattle.chart.specs.Lookup.{grade_of};
-ghost use Rattle.tariff.specs.Grades.{rank, worse, no_grade};
+ghost use Rattle.tariff.specs.Grades.{rank, grade_pricing};
 ghost use Rattle.std.proofs.Common.{rules};
 
 use crate::traits::Tariff;
@@ -38,21 +37,9 @@ impl GradeTariff {
 impl Tariff for GradeTariff {
     type Price = Option<Grade>;
 
-    ghost free = { λ t. no_grade };
+    ghost pricing = { λ t. grade_pricing (layout t.chart) };
 
-    ghost sum = { λ t. worse };
-
-    ghost leq = { λ t a b. nat_le (rank a) (rank b) };
-
-    ghost release = { λ t sender receiver p. Some (grade_of (layout t.chart) sender receiver) };
-
-    ghost total = { Prim.search rules };
-
-    ghost transitive = { Prim.search rules };
-
-    ghost left = { Prim.search rules };
-
-    ghost right = { Prim.search rules };
+    ghost lawful = { λ t. record { total = Prim.search rules; transitive = Prim.search rules; left = Prim.search rules; right = Prim.search rules } };
 
     fn nothing(&self) -> Option<Grade> {
         None
