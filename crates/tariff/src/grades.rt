@@ -13,18 +13,6 @@ pub struct GradeTariff {
     chart: Chart,
 }
 
-// The place of a price in rising order.
-fn rank_of(price: Option<Grade>) -> u16
-    ensures { result ≡ rank price }
-{
-    match price {
-        None => 0,
-        Some(Grade::Quay) => 1,
-        Some(Grade::Leased) => 2,
-        Some(Grade::Public) => 3,
-    }
-}
-
 impl GradeTariff {
     // Prices by the lines of a chart.
     pub fn new(chart: Chart) -> GradeTariff
@@ -46,11 +34,11 @@ impl Tariff for GradeTariff {
     }
 
     fn join(&self, a: Option<Grade>, b: Option<Grade>) -> Option<Grade> {
-        if rank_of(a) <= rank_of(b) { b } else { a }
+        a.max(b)
     }
 
     fn at_most(&self, a: Option<Grade>, b: Option<Grade>) -> bool {
-        rank_of(a) <= rank_of(b)
+        a <= b
     }
 
     fn price(&self, sender: u16, receiver: u16, _profile: &Profile) -> Option<Grade> {
