@@ -32,13 +32,7 @@ pub(crate) enum Source {
 fn leaf_place<T: Tariff>(tariff: &T, home: Option<u16>, server: u16) -> Option<Place<T::Price>>
     ensures { result ≡ leaf_place (T.pricing tariff.now) home server }
 {
-    let Some(own) = home else {
-        return None;
-    };
-    if own != server {
-        return None;
-    }
-    Some(Place {
+    (home == Some(server)).then(|| Place {
         price: tariff.nothing(),
         mode: Mode::Local,
         other: server,
@@ -49,13 +43,10 @@ fn leaf_place<T: Tariff>(tariff: &T, home: Option<u16>, server: u16) -> Option<P
 fn kept_place<P: Copy>(server: u16, below: Option<Place<P>>) -> Option<Place<P>>
     ensures { result ≡ kept server below }
 {
-    let Some(place) = below else {
-        return None;
-    };
-    Some(Place {
-        price: place.price,
+    below.map(|place| Place {
         mode: Mode::Local,
         other: server,
+        ..place
     })
 }
 
@@ -105,19 +96,10 @@ pub(crate) fn source_of<P: Policy>(policy: &P, node: Node, profiles: &[Profile])
         Node::Leaf { relation } => Source::Home(chart.server_of(relation)),
         Node::Project { operand, .. } | Node::Filter { operand, .. } => Source::Operand(operand),
         Node::Join { left, right, link } => {
-            let pair = Join::new(
-                chart,
-                profiles[left as usize],
-                profiles[right as usize],
-                link,
-            );
-            match pair {
-                Some(join) => Source::Options(
-                    Operands { left, right },
-                    sends_of(policy, chart.servers(), &join),
-                ),
-                None => unreachable(),
-            }
+            let (a, b) = (profiles[left as usize], profiles[right as usize]);
+            let join = Join::new(chart, a, b, link).unwrap();
+            let sends = sends_of(policy, chart.servers(), &join);
+            Source::Options(Operands { left, right }, sends)
         }
     }
 }

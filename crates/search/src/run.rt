@@ -83,11 +83,7 @@ pub fn search_tree<P: Policy, T: Tariff>(
     if work.len() < nodes.len() * chart.servers() as usize {
         return Err(TreeRefusal::Room);
     }
-    match check_tree(chart, nodes) {
-        Ok(profiles) => Ok(Searched {
-            profiles,
-            outcome: run_search(policy, tariff, nodes, &profiles, work),
-        }),
-        Err(refusal) => Err(refusal),
-    }
+    let profiles = check_tree(chart, nodes)?;
+    let outcome = run_search(policy, tariff, nodes, &profiles, work);
+    Ok(Searched { profiles, outcome })
 }

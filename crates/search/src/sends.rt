@@ -30,17 +30,6 @@ pub(crate) struct Sends {
     right_reply: Sending,
 }
 
-// The set with a server too.
-fn with_server(set: SmallSet, server: u16) -> SmallSet
-    requires { server < 64 }
-    ensures { (s : ℕ) → has result s ≡ (has set s || server == s) }
-{
-    match set.insert(server) {
-        Some(more) => more,
-        None => unreachable(),
-    }
-}
-
 // Asks the policy, for each server, whether it may see the profile.
 fn with_receivers<P: Policy>(policy: &P, servers: u16, profile: Profile) -> Sending
     requires { servers ≤ 16 }
@@ -49,7 +38,7 @@ fn with_receivers<P: Policy>(policy: &P, servers: u16, profile: Profile) -> Send
     let mut receivers = SmallSet::empty();
     for server in 0..servers {
         if policy.allows(server, &profile) {
-            receivers = with_server(receivers, server);
+            receivers = receivers.insert(server).unwrap_or(receivers);
         }
     }
     Sending { profile, receivers }
