@@ -1,7 +1,6 @@
 ghost use Rattle.chart.specs.Charts.{layout};
 ghost use Rattle.assignments.specs.Laws.{Laws};
 ghost use Rattle.assignments.specs.Theorem.{TableLaws};
-ghost use Rattle.tariff.specs.Pricing.{pricing_of};
 
 use chart::Chart;
 use tariff::Tariff;
@@ -13,5 +12,5 @@ pub fn assignment_laws()
 
 // The laws of the table, on every chart and by every tariff: the contract is the theorem.
 pub fn table_laws<T: Tariff>(tariff: &T, chart: &Chart)
-    ensures { TableLaws (layout chart.now) (pricing_of T.Tariff.free T.Tariff.sum T.Tariff.leq T.Tariff.release tariff.now) }
+    ensures { TableLaws (layout chart.now) (T.pricing tariff.now) }
 {}

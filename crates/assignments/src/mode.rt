@@ -5,15 +5,15 @@ ghost use Rattle.assignments.specs.Modes.{mode_number, fits, left_at, right_at};
 #[derive(Clone, Copy, PartialEq, Eq)]
 pub enum Mode {
     // both operands lie at the master
-    Local,
+    Local = 0,
     // the master has the left operand, and the right one is sent to it whole
-    LeftMaster,
+    LeftMaster = 1,
     // the master has the left operand, sends its join column and gets the matching rows back
-    LeftSemi,
+    LeftSemi = 2,
     // the master has the right operand, and the left one is sent to it whole
-    RightMaster,
+    RightMaster = 3,
     // the master has the right operand, sends its join column and gets the matching rows back
-    RightSemi,
+    RightSemi = 4,
 }
 
 impl Mode {
@@ -21,26 +21,14 @@ impl Mode {
     pub fn number(self) -> u16
         ensures { result ≡ mode_number self }
     {
-        match self {
-            Mode::Local => 0,
-            Mode::LeftMaster => 1,
-            Mode::LeftSemi => 2,
-            Mode::RightMaster => 3,
-            Mode::RightSemi => 4,
-        }
+        self as u16
     }
 
     // Whether a master may join so with the other operand at this server.
     pub fn fits(self, master: u16, other: u16) -> bool
         ensures { result ≡ fits self master other }
     {
-        match self {
-            Mode::Local => other == master,
-            Mode::LeftMaster => other != master,
-            Mode::LeftSemi => other != master,
-            Mode::RightMaster => other != master,
-            Mode::RightSemi => other != master,
-        }
+        (self == Mode::Local) == (other == master)
     }
 
     // Where the left operand is.
@@ -48,11 +36,8 @@ impl Mode {
         ensures { result ≡ left_at self master other }
     {
         match self {
-            Mode::Local => master,
-            Mode::LeftMaster => master,
-            Mode::LeftSemi => master,
-            Mode::RightMaster => other,
-            Mode::RightSemi => other,
+            Mode::Local | Mode::LeftMaster | Mode::LeftSemi => master,
+            Mode::RightMaster | Mode::RightSemi => other,
         }
     }
 
@@ -61,11 +46,8 @@ impl Mode {
         ensures { result ≡ right_at self master other }
     {
         match self {
-            Mode::Local => other,
-            Mode::LeftMaster => other,
-            Mode::LeftSemi => other,
-            Mode::RightMaster => master,
-            Mode::RightSemi => master,
+            Mode::RightMaster | Mode::RightSemi => master,
+            Mode::Local | Mode::LeftMaster | Mode::LeftSemi => other,
         }
     }
 }

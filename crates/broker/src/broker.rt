@@ -3,7 +3,6 @@ ghost use Rattle.chart.specs.Charts.{layout};
 ghost use Rattle.rules.specs.declared.view.RuleRecord.{RuleRecord as Entry};
 ghost use Rattle.broker.specs.Histories.{Reached};
 ghost use Rattle.broker.specs.Calls.{Enters, Withdraws, Judges};
-ghost use Rattle.tariff.specs.Pricing.{pricing_of};
 
 use assignments::{Place, Release, Step};
 use planner::{Planned, QueryRefusal, plan_query};
@@ -55,7 +54,7 @@ fn judge<B: Book, T: Tariff>(
     plan: &mut [Step],
     releases: &mut [Release],
 ) -> Result<Planned<T::Price>, QueryRefusal>
-    ensures { Judges (layout (B.Policy.charted book.now)) (B.Book.fits book.now) (B.Policy.reading book.now) (B.Policy.rules book.now) (pricing_of T.Tariff.free T.Tariff.sum T.Tariff.leq T.Tariff.release tariff.now) nodes.now work.old work.new plan.old plan.new releases.old releases.new result }
+    ensures { Judges (layout (B.Policy.charted book.now)) (B.Book.fits book.now) (B.Policy.reading book.now) (B.Policy.rules book.now) (T.pricing tariff.now) nodes.now work.old work.new plan.old plan.new releases.old releases.new result }
 {
     plan_query(book, tariff, nodes, work, plan, releases)
 }
@@ -98,7 +97,7 @@ impl<B: Book> Broker<B> {
         plan: &mut [Step],
         releases: &mut [Release],
     ) -> Result<Planned<T::Price>, QueryRefusal>
-        ensures { Judges (layout (B.Policy.charted self.now.book)) (B.Book.fits self.now.book) (B.Policy.reading self.now.book) (B.Policy.rules self.now.book) (pricing_of T.Tariff.free T.Tariff.sum T.Tariff.leq T.Tariff.release tariff.now) nodes.now work.old work.new plan.old plan.new releases.old releases.new result }
+        ensures { Judges (layout (B.Policy.charted self.now.book)) (B.Book.fits self.now.book) (B.Policy.reading self.now.book) (B.Policy.rules self.now.book) (T.pricing tariff.now) nodes.now work.old work.new plan.old plan.new releases.old releases.new result }
     {
         judge(&self.book, tariff, nodes, work, plan, releases)
     }

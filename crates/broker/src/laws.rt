@@ -1,6 +1,5 @@
 ghost use Rattle.chart.specs.Charts.{layout};
 ghost use Rattle.broker.specs.Alike.{JudgedAlike};
-ghost use Rattle.tariff.specs.Pricing.{pricing_of};
 
 use crate::broker::Broker;
 use policy::Book;
@@ -8,5 +7,5 @@ use tariff::Tariff;
 
 // Histories that leave the same standing rules: every query gets the same answer and buffers. The contract is the theorem.
 pub fn histories_alike<B: Book, T: Tariff>(one: &Broker<B>, other: &Broker<B>, tariff: &T)
-    ensures { JudgedAlike (B.Policy.charted one.now.book) (B.Policy.charted other.now.book) (B.Book.fits one.now.book) (B.Book.fits other.now.book) (B.Policy.reading one.now.book) (B.Policy.reading other.now.book) (B.Policy.rules one.now.book) (B.Policy.rules other.now.book) (pricing_of T.Tariff.free T.Tariff.sum T.Tariff.leq T.Tariff.release tariff.now) }
+    ensures { JudgedAlike (B.Policy.charted one.now.book) (B.Policy.charted other.now.book) (B.Book.fits one.now.book) (B.Book.fits other.now.book) (B.Policy.reading one.now.book) (B.Policy.reading other.now.book) (B.Policy.rules one.now.book) (B.Policy.rules other.now.book) (T.pricing tariff.now) }
 {}

@@ -1,7 +1,6 @@
 ghost use Rattle.std.specs.Prelude.{◌≡◌, ◌≤◌, false, length, is_ok, OnOk};
 ghost use Rattle.chart.specs.Charts.{layout};
 ghost use Rattle.broker.specs.Runs.{state_by, run_answer, Ran, Stepped};
-ghost use Rattle.tariff.specs.Pricing.{pricing_of};
 
 use crate::broker::Broker;
 use assignments::{Place, Release, Step};
@@ -35,7 +34,7 @@ fn step<B: Book, T: Tariff>(
     plan: &mut [Step],
     releases: &mut [Release],
 ) -> Answer<T::Price>
-    ensures stepped { Stepped (layout (B.Policy.charted broker.old.book)) (B.Book.fits broker.old.book) (B.Policy.reading broker.old.book) (pricing_of T.Tariff.free T.Tariff.sum T.Tariff.leq T.Tariff.release tariff.now) (B.Policy.rules broker.old.book) (state_by work.old plan.old releases.old) call.entry result (B.Policy.rules broker.new.book) work.new plan.new releases.new }
+    ensures stepped { Stepped (layout (B.Policy.charted broker.old.book)) (B.Book.fits broker.old.book) (B.Policy.reading broker.old.book) (T.pricing tariff.now) (B.Policy.rules broker.old.book) (state_by work.old plan.old releases.old) call.entry result (B.Policy.rules broker.new.book) work.new plan.new releases.new }
     ensures chart { B.Policy.charted broker.new.book ≡ B.Policy.charted broker.old.book }
     ensures reads { B.Policy.reading broker.new.book ≡ B.Policy.reading broker.old.book }
     ensures fitting { B.Book.fits broker.new.book ≡ B.Book.fits broker.old.book }
@@ -58,7 +57,7 @@ fn run_all<B: Book, T: Tariff>(
     releases: &mut [Release],
 )
     requires { length calls.now ≤ length answers.old }
-    ensures ran { Ran (layout (B.Policy.charted broker.old.book)) (B.Book.fits broker.old.book) (B.Policy.reading broker.old.book) (pricing_of T.Tariff.free T.Tariff.sum T.Tariff.leq T.Tariff.release tariff.now) (B.Policy.rules broker.old.book) (state_by work.old plan.old releases.old) calls.now answers.old answers.new (B.Policy.rules broker.new.book) work.new plan.new releases.new }
+    ensures ran { Ran (layout (B.Policy.charted broker.old.book)) (B.Book.fits broker.old.book) (B.Policy.reading broker.old.book) (T.pricing tariff.now) (B.Policy.rules broker.old.book) (state_by work.old plan.old releases.old) calls.now answers.old answers.new (B.Policy.rules broker.new.book) work.new plan.new releases.new }
     ensures chart { B.Policy.charted broker.new.book ≡ B.Policy.charted broker.old.book }
     ensures reads { B.Policy.reading broker.new.book ≡ B.Policy.reading broker.old.book }
     ensures fitting { B.Book.fits broker.new.book ≡ B.Book.fits broker.old.book }
@@ -81,7 +80,7 @@ impl<B: Book> Broker<B> {
         releases: &mut [Release],
     ) -> Result<(), QueryRefusal>
         ensures answer { result ≡ run_answer calls.now answers.old }
-        ensures ran { OnOk result (Ran (layout (B.Policy.charted self.old.book)) (B.Book.fits self.old.book) (B.Policy.reading self.old.book) (pricing_of T.Tariff.free T.Tariff.sum T.Tariff.leq T.Tariff.release tariff.now) (B.Policy.rules self.old.book) (state_by work.old plan.old releases.old) calls.now answers.old answers.new (B.Policy.rules self.new.book) work.new plan.new releases.new) }
+        ensures ran { OnOk result (Ran (layout (B.Policy.charted self.old.book)) (B.Book.fits self.old.book) (B.Policy.reading self.old.book) (T.pricing tariff.now) (B.Policy.rules self.old.book) (state_by work.old plan.old releases.old) calls.now answers.old answers.new (B.Policy.rules self.new.book) work.new plan.new releases.new) }
         ensures refused { is_ok result ≡ false → (self.new ≡ self.old) × (answers.new ≡ answers.old) × (work.new ≡ work.old) × (plan.new ≡ plan.old) × (releases.new ≡ releases.old) }
         ensures chart { B.Policy.charted self.new.book ≡ B.Policy.charted self.old.book }
         ensures reads { B.Policy.reading self.new.book ≡ B.Policy.reading self.old.book }

@@ -21,21 +21,9 @@ pub struct DoublingTariff {
 impl Tariff for DoublingTariff {
     type Price = Doubled;
 
-    ghost free = { λ t. (doubling t.base).free };
+    ghost pricing = { λ t. doubling t.base };
 
-    ghost sum = { λ t. (doubling t.base).sum };
-
-    ghost leq = { λ t. (doubling t.base).leq };
-
-    ghost release = { λ t. (doubling t.base).release };
-
-    ghost total = { Prim.search rules };
-
-    ghost transitive = { Prim.search rules };
-
-    ghost left = { Prim.search rules };
-
-    ghost right = { Prim.search rules };
+    ghost lawful = { λ t. record { total = Prim.search rules; transitive = Prim.search rules; left = Prim.search rules; right = Prim.search rules } };
 
     fn nothing(&self) -> Doubled {
         Doubled { cost: 0, mark: 0 }

@@ -1,7 +1,7 @@
 ghost use Rattle.std.specs.Prelude.{◌≡◌, ℕ, ◌-◌, ◌<◌, ◌≤◌, Bool, true, List, length, Some, Option as Maybe, slice_index_or};
 ghost use Rattle.chart.specs.Charts.{layout};
 ghost use Rattle.profile.specs.declared.shape.Profile.{Profile as Shape};
-ghost use Rattle.tariff.specs.Pricing.{Pricing, pricing_of};
+ghost use Rattle.tariff.specs.Pricing.{Pricing};
 ghost use Rattle.queries.specs.Flat.{blank};
 ghost use Rattle.queries.specs.Questions.{node_profile};
 ghost use Rattle.queries.specs.Sound.{Sound};
@@ -88,11 +88,11 @@ pub fn plan_query<P: Policy, T: Tariff>(
     plan: &mut [Step],
     releases: &mut [Release],
 ) -> Result<Planned<T::Price>, QueryRefusal>
-    ensures answer { result ≡ query_answer (pricing_of T.Tariff.free T.Tariff.sum T.Tariff.leq T.Tariff.release tariff.now) (P.Policy.reading policy.now (P.Policy.rules policy.now)) (layout (P.Policy.charted policy.now)) nodes.now work.old plan.old releases.old }
-    ensures work { work.new ≡ work_after (pricing_of T.Tariff.free T.Tariff.sum T.Tariff.leq T.Tariff.release tariff.now) (P.Policy.reading policy.now (P.Policy.rules policy.now)) (layout (P.Policy.charted policy.now)) nodes.now work.old plan.old releases.old }
-    ensures plan { plan.new ≡ plan_then (pricing_of T.Tariff.free T.Tariff.sum T.Tariff.leq T.Tariff.release tariff.now) (P.Policy.reading policy.now (P.Policy.rules policy.now)) (layout (P.Policy.charted policy.now)) nodes.now work.old plan.old releases.old }
-    ensures releases { releases.new ≡ releases_then (pricing_of T.Tariff.free T.Tariff.sum T.Tariff.leq T.Tariff.release tariff.now) (P.Policy.reading policy.now (P.Policy.rules policy.now)) (layout (P.Policy.charted policy.now)) nodes.now work.old plan.old releases.old }
-    ensures judged { Judged (pricing_of T.Tariff.free T.Tariff.sum T.Tariff.leq T.Tariff.release tariff.now) (P.Policy.reading policy.now (P.Policy.rules policy.now)) (layout (P.Policy.charted policy.now)) nodes.now work.new plan.new releases.new result }
+    ensures answer { result ≡ query_answer (T.pricing tariff.now) (P.Policy.reading policy.now (P.Policy.rules policy.now)) (layout (P.Policy.charted policy.now)) nodes.now work.old plan.old releases.old }
+    ensures work { work.new ≡ work_after (T.pricing tariff.now) (P.Policy.reading policy.now (P.Policy.rules policy.now)) (layout (P.Policy.charted policy.now)) nodes.now work.old plan.old releases.old }
+    ensures plan { plan.new ≡ plan_then (T.pricing tariff.now) (P.Policy.reading policy.now (P.Policy.rules policy.now)) (layout (P.Policy.charted policy.now)) nodes.now work.old plan.old releases.old }
+    ensures releases { releases.new ≡ releases_then (T.pricing tariff.now) (P.Policy.reading policy.now (P.Policy.rules policy.now)) (layout (P.Policy.charted policy.now)) nodes.now work.old plan.old releases.old }
+    ensures judged { Judged (T.pricing tariff.now) (P.Policy.reading policy.now (P.Policy.rules policy.now)) (layout (P.Policy.charted policy.now)) nodes.now work.new plan.new releases.new result }
 {
     if !has_fit_count(nodes) {
         return Err(QueryRefusal::Tree(TreeRefusal::Count));

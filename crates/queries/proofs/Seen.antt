@@ -1,7 +1,9 @@
 -- The sets that a check keeps of the nodes before one.
-use Rattle.std.proofs.Common.{◌≡◌, ℕ, ◌+◌, ◌<◌, Bool, true, false, cond, not, ◌&&◌, ◌||◌, eqb, ltb, ◌⊎◌, List, [], ◌∷◌, ◌++◌, length, take, Some, None, sym, refl, ap, ◌∙◌, inl, inr, arith}
+use Rattle.std.proofs.Common.{◌≡◌, ℕ, ◌+◌, ◌<◌, Bool, true, false, not, ◌&&◌, ◌||◌, eqb, ltb, ◌⊎◌, List, [], ◌∷◌, ◌++◌, length, take, Some, None, Option, sym, refl, ap, ◌∙◌, inl, inr, arith}
 use Rattle.std.proofs.lemmas.List.{take_more}
-use Rattle.std.proofs.lemmas.Bool.{cases_Bool, ltb-true}
+use Rattle.std.proofs.lemmas.Bool.{cases_Bool, cond-true, cond-false, ltb-true, ltb-false, ne_eqb}
+use Rattle.std.proofs.Math.Bool.{or-false}
+use Rattle.std.specs.Option.{unwrap_or}
 use Rattle.sets.specs.declared.small_set.SmallSet.{SmallSet}
 use Rattle.sets.specs.Sets.{has, union, single, insert_answer}
 use Rattle.sets.proofs.Sets.{union_has, single_has}
@@ -10,21 +12,20 @@ use Rattle.queries.specs.declared.node.Node.{Node}
 use Rattle.queries.specs.Flat.{node}
 use Rattle.queries.specs.Questions.{uses, is_leaf, used_by, stands_in, operands_fit, different}
 
-pub inserted : (s more : SmallSet) (i : ℕ) → Some more ≡ insert_answer s i → (j : ℕ) → has more j ≡ (has s j || eqb i j)
-inserted s more i h j = go (ltb i 64) h
+-- A number below 64 is put in; no set below 64 tells of another.
+pub inserted : (s : SmallSet) (i j : ℕ) → j < 64 → has (unwrap_or (insert_answer s i) s) j ≡ (has s j || eqb i j)
+inserted s i j h = go (cases_Bool (ltb i 64))
   where
-    go : (b : Bool) → Some more ≡ cond b (Some (union s (single i))) None → has more j ≡ (has s j || eqb i j)
-    go true e =
-        let same : more ≡ union s (single i) = cc in
-        ap (λ (t : SmallSet). has t j) same ∙ union_has s (single i) j ∙ ap (λ (b : Bool). has s j || b) (single_has i j)
-    go false e = let z : ◌≡◌ {A = ℕ} 0 1 = cc in absurd (omega arith)
+    go : (ltb i 64 ≡ true) ⊎ (ltb i 64 ≡ false) → has (unwrap_or (insert_answer s i) s) j ≡ (has s j || eqb i j)
+    go (inl t) =
+        ap (λ (r : Option SmallSet). has (unwrap_or r s) j) (cond-true (ltb i 64) (Some (union s (single i))) None t)
+        ∙ union_has s (single i) j ∙ ap (λ (b : Bool). has s j || b) (single_has i j)
+    go (inr f) =
+        ap (λ (r : Option SmallSet). has (unwrap_or r s) j) (cond-false (ltb i 64) (Some (union s (single i))) None f)
+        ∙ sym (ap (λ (b : Bool). has s j || b) (ne_eqb i j (λ e. omega (arith, ltb-false i 64 f))) ∙ or-false (has s j))
 
 any_push : {X : Type 0} (p : X → Bool) (xs : List X) (y : X) → any_of p (xs ++ y ∷ []) ≡ (any_of p xs || p y)
-any_push p [] y = go (p y)
-  where
-    go : (b : Bool) → (b || false) ≡ b
-    go true = refl
-    go false = refl
+any_push p [] y = or-false (p y)
 any_push p (x ∷ xs) y = ap (λ (b : Bool). p x || b) (any_push p xs y) ∙ go (p x)
   where
     go : (b : Bool) → (b || (any_of p xs || p y)) ≡ ((b || any_of p xs) || p y)

@@ -1,29 +1,38 @@
 -- The question whether each node is used.
-use Rattle.std.proofs.Common.{◌≡◌, ℕ, zero, suc, ◌+◌, ◌-◌, ◌<◌, ◌≤◌, Bool, true, false, ◌∷◌, IfOk, Ok, Err, Result, sym, refl, ap, ◌∙◌, arith}
-use Rattle.std.proofs.lemmas.Bool.{cond-true, cond-false}
+use Rattle.std.proofs.Common.{◌≡◌, ℕ, zero, suc, ◌+◌, ◌<◌, ◌≤◌, Bool, true, false, cond, ◌⊎◌, MatchOption, Some, None, Option, IfOk, Ok, Err, Result, sym, refl, ap, ◌∙◌, inl, inr, arith}
+use Rattle.std.proofs.lemmas.Bool.{cases_eq, cond-true, cond-false}
+use Rattle.queries.specs.declared.refusal.TreeRefusal.{TreeRefusal}
 use Rattle.queries.specs.declared.refusal.TreeRefusal.TheVariants.{Unused}
 use Rattle.queries.specs.Questions.{uses_from, answered}
 
-uses_step : (used : ℕ → Bool) (n j : ℕ) → j < n → uses_from used j (n - j) ≡ (used j, Unused j) ∷ uses_from used (j + 1) (n - (j + 1))
+-- each of them is used
+uses_all : (used : ℕ → Bool) (n j : ℕ) → ((k : ℕ) → j ≤ k → k < j + n → used k ≡ true) → answered (uses_from used j n) ≡ Ok tt
 unfolding uses_from
-uses_step used n j h = let z : n - j ≡ suc (n - (j + 1)) = omega arith in ap (uses_from used j) z
+uses_all used zero j h = refl
+uses_all used (suc n) j h =
+    cond-true (used j) (answered (uses_from used (j + 1) n)) (Err (Unused j)) (h j (omega arith) (omega arith))
+    ∙ uses_all used n (j + 1) (λ k low high. h k (omega arith) (omega arith))
 
-module _ (used : ℕ → Bool) (n j : ℕ) where
-  pub uses_none : answered (uses_from used 0 (n - 0)) ≡ answered (uses_from used 0 n)
-  uses_none = let z : n - 0 ≡ n = omega arith in ap (λ (m : ℕ). answered (uses_from used 0 m)) z
+-- those before i are used, and i is not
+uses_first : (used : ℕ → Bool) (n j i : ℕ) → j ≤ i → i < j + n → used i ≡ false → ((k : ℕ) → j ≤ k → k < i → used k ≡ true) → answered (uses_from used j n) ≡ Err (Unused i)
+unfolding uses_from
+uses_first used zero j i low high no' h = absurd (omega arith)
+uses_first used (suc n) j i low high no' h = go (cases_eq i j) (uses_first used n (j + 1) i)
+  where
+    go : (i ≡ j) ⊎ (i ≡ j → ⊥) → (j + 1 ≤ i → i < j + 1 + n → used i ≡ false → ((k : ℕ) → j + 1 ≤ k → k < i → used k ≡ true) → answered (uses_from used (j + 1) n) ≡ Err (Unused i))
+        → cond (used j) (answered (uses_from used (j + 1) n)) (Err (Unused j)) ≡ Err (Unused i)
+    go (inl e) rest =
+        cond-false (used j) (answered (uses_from used (j + 1) n)) (Err (Unused j)) (sym (ap used e) ∙ no') ∙ ap (λ (k : ℕ). Err (Unused k)) (sym e)
+    go (inr ne) rest =
+        cond-true (used j) (answered (uses_from used (j + 1) n)) (Err (Unused j)) (h j (omega arith) (omega arith))
+        ∙ rest (omega arith) (omega arith) no' (λ k low' high'. h k (omega arith) high')
 
-  module _ (so_far : answered (uses_from used j (n - j)) ≡ answered (uses_from used 0 n)) where
-    pub unused_at : j < n → used j ≡ false → Err (Unused j) ≡ answered (uses_from used 0 n)
-    unused_at h no' =
-        sym (ap answered (uses_step used n j h) ∙ cond-false (used j) (answered (uses_from used (j + 1) (n - (j + 1)))) (Err (Unused j)) no') ∙ so_far
-
-    pub used_at : j < n → used j ≡ true → answered (uses_from used (j + 1) (n - (j + 1))) ≡ answered (uses_from used 0 n)
-    used_at h yes' =
-        sym (ap answered (uses_step used n j h) ∙ cond-true (used j) (answered (uses_from used (j + 1) (n - (j + 1)))) (Err (Unused j)) yes') ∙ so_far
-
-    pub used_all : n ≤ j → Ok tt ≡ answered (uses_from used 0 n)
-    unfolding uses_from
-    used_all h = let z : n - j ≡ 0 = omega arith in sym (ap (λ (m : ℕ). answered (uses_from used j m)) z) ∙ so_far
+-- the answer by the first number that is not used
+pub unused_first : (used : ℕ → Bool) (n : ℕ) (first : Option ℕ) (r : Result (Unit {0}) TreeRefusal)
+    → MatchOption first ((k : ℕ) → 0 ≤ k → k < n → used k ≡ true) (λ i. (0 ≤ i) × (i < n) × (used i ≡ false) × ((k : ℕ) → 0 ≤ k → k < i → used k ≡ true))
+    → MatchOption first (r ≡ Ok tt) (λ i. r ≡ Err (Unused i)) → r ≡ answered (uses_from used 0 n)
+unused_first used n None r h e = e ∙ sym (uses_all used n 0 (λ k low high. h k low (omega arith)))
+unused_first used n (Some i) r h e = e ∙ sym (uses_first used n 0 i h.0 (omega (arith, h.1)) h.2 h.3)
 
 -- the questions are the same where the tests are
 pub uses_same : (p q : ℕ → Bool) (n j : ℕ) → ((k : ℕ) → k < j + n → p k ≡ q k) → uses_from p j n ≡ uses_from q j n

@@ -14,8 +14,8 @@ use profile::{Join, Profile};
 use sets::SmallSet;
 
 // Of the nodes before one: which are used, and the relations of the leaves.
-#[derive(Clone, Copy)]
-pub(crate) struct Seen {
+#[derive(Clone, Copy, Default)]
+struct Seen {
     used: SmallSet,
     relations: SmallSet,
 }
@@ -24,10 +24,7 @@ pub(crate) struct Seen {
 fn with_number(set: SmallSet, i: u16) -> SmallSet
     ensures { (j : ℕ) → j < 64 → has result j ≡ (has set j || i == j) }
 {
-    match set.insert(i) {
-        Some(more) => more,
-        None => set,
-    }
+    set.insert(i).unwrap_or(set)
 }
 
 // What is seen once this node was passed too.
@@ -37,16 +34,16 @@ fn with_node(seen: Seen, node: Node) -> Seen
 {
     match node {
         Node::Leaf { relation } => Seen {
-            used: seen.used,
             relations: with_number(seen.relations, relation),
+            ..seen
         },
         Node::Project { operand, .. } | Node::Filter { operand, .. } => Seen {
             used: with_number(seen.used, operand),
-            relations: seen.relations,
+            ..seen
         },
         Node::Join { left, right, .. } => Seen {
             used: with_number(with_number(seen.used, left), right),
-            relations: seen.relations,
+            ..seen
         },
     }
 }
@@ -71,11 +68,12 @@ fn has_operands(node: Node, i: u16, used: SmallSet) -> bool
     }
 }
 
-// Whether there are attributes, all of them shown.
-fn are_shown(attributes: SmallSet, shown: SmallSet) -> bool
-    ensures { result ≡ attributes_fit attributes shown }
+// The profile, if there are attributes and it shows all of them.
+fn showing(profile: Profile, attributes: SmallSet) -> Option<Profile>
+    ensures { result ≡ (if attributes_fit attributes profile.shown then Some profile else None) }
 {
-    !attributes.is_same(SmallSet::empty()) && attributes.is_subset(shown)
+    let fits = attributes != SmallSet::empty() && attributes.is_subset(profile.shown);
+    fits.then_some(profile)
 }
 
 // The profile of a node, if it passes the question for its kind, by the profiles of the nodes before it.
@@ -89,40 +87,19 @@ fn profile_of_node(
     ensures { result ≡ (if kind_fits (layout chart.now) (has relations) (λ j. get_or profiles.now j blank) node then Some (profile_by (layout chart.now) (λ j. get_or profiles.now j blank) node) else None) }
 {
     match node {
-        Node::Leaf { relation } => {
-            if relations.contains(relation) {
-                return None;
-            }
-            Profile::leaf(chart, relation)
-        }
+        Node::Leaf { relation } if relations.contains(relation) => None,
+        Node::Leaf { relation } => Profile::leaf(chart, relation),
         Node::Project {
             operand,
             attributes,
-        } => {
-            let below = profiles[operand as usize];
-            if !are_shown(attributes, below.shown) {
-                return None;
-            }
-            Some(below.project(attributes))
-        }
+        } => Some(showing(profiles[operand as usize], attributes)?.project(attributes)),
         Node::Filter {
             operand,
             attributes,
-        } => {
-            let below = profiles[operand as usize];
-            if !are_shown(attributes, below.shown) {
-                return None;
-            }
-            Some(below.filter(attributes))
-        }
+        } => Some(showing(profiles[operand as usize], attributes)?.filter(attributes)),
         Node::Join { left, right, link } => {
-            let join = Join::new(
-                chart,
-                profiles[left as usize],
-                profiles[right as usize],
-                link,
-            )?;
-            Some(join.profile())
+            let (left, right) = (profiles[left as usize], profiles[right as usize]);
+            Some(Join::new(chart, left, right, link)?.profile())
         }
     }
 }
@@ -152,10 +129,7 @@ fn check_node(
     if !has_operands(node, i, seen.used) {
         return Err(TreeRefusal::Operand(i));
     }
-    match profile_of_node(chart, node, seen.relations, profiles) {
-        Some(profile) => Ok(profile),
-        None => Err(refusal_of_kind(node, i)),
-    }
+    profile_of_node(chart, node, seen.relations, profiles).ok_or_else(|| refusal_of_kind(node, i))
 }
 
 // Puts its questions to each node in turn, and keeps the profile of each. The answer is the set of the used nodes.
@@ -169,14 +143,10 @@ fn check_nodes(
     ensures used { IfOk result (λ u. (j : ℕ) → j < 64 → has u j ≡ used_by nodes.now (length nodes.now) j) }
     ensures profiles { OnOk result ((k : ℕ) → k < length nodes.now → slice_index_or profiles.new k blank ≡ node_profile (layout chart.now) nodes.now k) }
 {
-    let mut seen = Seen {
-        used: SmallSet::empty(),
-        relations: SmallSet::empty(),
-    };
-    for i in 0..nodes.len() {
-        let profile = check_node(chart, nodes[i], i as u16, seen, profiles)?;
-        profiles[i] = profile;
-        seen = with_node(seen, nodes[i]);
+    let mut seen = Seen::default();
+    for (i, node) in nodes.iter().enumerate() {
+        profiles[i] = check_node(chart, *node, i as u16, seen, profiles)?;
+        seen = with_node(seen, *node);
     }
     Ok(seen.used)
 }
@@ -185,19 +155,16 @@ fn check_nodes(
 fn check_used(used: SmallSet, count: u16) -> Result<(), TreeRefusal>
     ensures { result ≡ answered (uses_from (has used) 0 count) }
 {
-    for j in 0..count {
-        if !used.contains(j) {
-            return Err(TreeRefusal::Unused(j));
-        }
-    }
-    Ok(())
+    (0..count)
+        .find(|j| !used.contains(*j))
+        .map_or(Ok(()), |j| Err(TreeRefusal::Unused(j)))
 }
 
 // Whether there are 1 to 63 nodes.
 pub fn has_fit_count(nodes: &[Node]) -> bool
     ensures { result ≡ count_fits nodes.now }
 {
-    1 <= nodes.len() && nodes.len() <= 63
+    (1..=63).contains(&nodes.len())
 }
 
 // The questions of the nodes, and then whether all but the root are used.
@@ -206,10 +173,8 @@ fn check_all(chart: &Chart, nodes: &[Node], profiles: &mut [Profile]) -> Result<
     ensures answer { result ≡ answered (tree_questions (layout chart.now) nodes.now) }
     ensures profiles { OnOk result ((k : ℕ) → k < length nodes.now → slice_index_or profiles.new k blank ≡ node_profile (layout chart.now) nodes.now k) }
 {
-    match check_nodes(chart, nodes, profiles) {
-        Ok(used) => check_used(used, (nodes.len() - 1) as u16),
-        Err(refusal) => Err(refusal),
-    }
+    let used = check_nodes(chart, nodes, profiles)?;
+    check_used(used, (nodes.len() - 1) as u16)
 }
 
 // The profile of each node, in the first places, if the tree passes every question on this chart; else the first refusal.
@@ -222,14 +187,7 @@ pub fn check_tree(chart: &Chart, nodes: &[Node]) -> Result<[Profile; 63], TreeRe
     if !has_fit_count(nodes) {
         return Err(TreeRefusal::Count);
     }
-    let nothing = Profile {
-        shown: SmallSet::empty(),
-        path: SmallSet::empty(),
-        filtered: SmallSet::empty(),
-    };
-    let mut profiles = [nothing; 63];
-    match check_all(chart, nodes, &mut profiles) {
-        Ok(()) => Ok(profiles),
-        Err(refusal) => Err(refusal),
-    }
+    let mut profiles = [Profile::default(); 63];
+    check_all(chart, nodes, &mut profiles)?;
+    Ok(profiles)
 }

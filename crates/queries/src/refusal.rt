@@ -27,12 +27,11 @@ impl TreeRefusal {
     {
         match self {
             TreeRefusal::Count => 30,
-            TreeRefusal::Room => 35,
-            TreeRefusal::Operand(_) => 31,
+            TreeRefusal::Operand(_) | TreeRefusal::Unused(_) => 31,
             TreeRefusal::Relation(_) => 32,
             TreeRefusal::Attributes(_) => 33,
             TreeRefusal::Link(_) => 34,
-            TreeRefusal::Unused(_) => 31,
+            TreeRefusal::Room => 35,
         }
     }
 
@@ -41,13 +40,12 @@ impl TreeRefusal {
         ensures { result ≡ refusal_place self }
     {
         match self {
-            TreeRefusal::Count => 0,
-            TreeRefusal::Room => 0,
-            TreeRefusal::Operand(node) => node,
-            TreeRefusal::Relation(node) => node,
-            TreeRefusal::Attributes(node) => node,
-            TreeRefusal::Link(node) => node,
-            TreeRefusal::Unused(node) => node,
+            TreeRefusal::Count | TreeRefusal::Room => 0,
+            TreeRefusal::Operand(node)
+            | TreeRefusal::Relation(node)
+            | TreeRefusal::Attributes(node)
+            | TreeRefusal::Link(node)
+            | TreeRefusal::Unused(node) => node,
         }
     }
 }

@@ -5,7 +5,6 @@ ghost use Rattle.queries.specs.Flat.{operands, blank};
 ghost use Rattle.queries.specs.Questions.{node_profile};
 ghost use Rattle.queries.specs.Sound.{Sound};
 ghost use Rattle.search.specs.Rows.{Filled};
-ghost use Rattle.tariff.specs.Pricing.{pricing_of};
 
 use crate::rows::{fill_row, source_of};
 use crate::table::Table;
@@ -27,7 +26,7 @@ pub(crate) fn fill_table<P: Policy, T: Tariff>(
     requires sized { length nodes.now ≤ length profiles.now }
     requires servers { table.old.servers ≡ (layout (P.Policy.charted policy.now)).servers }
     requires room { length nodes.now * table.old.servers ≤ length table.old.places.now }
-    ensures filled { Filled (pricing_of T.Tariff.free T.Tariff.sum T.Tariff.leq T.Tariff.release tariff.now) (P.Policy.reading policy.now (P.Policy.rules policy.now)) (layout (P.Policy.charted policy.now)) nodes.now (length nodes.now) table.old.places.now table.new.places.now }
+    ensures filled { Filled (T.pricing tariff.now) (P.Policy.reading policy.now (P.Policy.rules policy.now)) (layout (P.Policy.charted policy.now)) nodes.now (length nodes.now) table.old.places.now table.new.places.now }
     ensures servers { table.new.servers ≡ table.old.servers }
     ensures lent { table.new.places.ghost_name ≡ table.old.places.ghost_name }
 {

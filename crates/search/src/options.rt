@@ -7,7 +7,6 @@ ghost use Rattle.assignments.specs.Cheapest.{better as cheaper};
 ghost use Rattle.assignments.specs.Table.{weighed, best_of_mode, best};
 ghost use Rattle.search.specs.Rows.{place_at};
 ghost use Rattle.search.specs.Sends.{Sent};
-ghost use Rattle.tariff.specs.Pricing.{pricing_of};
 
 use crate::sends::{Sends, is_open, price_of};
 use crate::table::Table;
@@ -27,7 +26,7 @@ fn better<T: Tariff>(
     first: Option<Place<T::Price>>,
     second: Option<Place<T::Price>>,
 ) -> Option<Place<T::Price>>
-    ensures { result ≡ cheaper (pricing_of T.Tariff.free T.Tariff.sum T.Tariff.leq T.Tariff.release tariff.now).leq (λ p. p.price) first second }
+    ensures { result ≡ cheaper (T.pricing tariff.now).leq (λ p. p.price) first second }
 {
     let Some(x) = first else {
         return second;
@@ -61,7 +60,7 @@ fn offer<T: Tariff>(
     left: Place<T::Price>,
     right: Place<T::Price>,
 ) -> Option<Place<T::Price>>
-    ensures { (may : ℕ → Shape → Bool) (n : ℕ) (j : Pair) → Sent may n j sends.now → left_at mode master other < n → right_at mode master other < n → result ≡ weighed (pricing_of T.Tariff.free T.Tariff.sum T.Tariff.leq T.Tariff.release tariff.now) (fits mode master other && allowed may (releases j mode (left_at mode master other) (right_at mode master other))) mode other (own_price (pricing_of T.Tariff.free T.Tariff.sum T.Tariff.leq T.Tariff.release tariff.now) (releases j mode (left_at mode master other) (right_at mode master other))) (Some left) (Some right) }
+    ensures { (may : ℕ → Shape → Bool) (n : ℕ) (j : Pair) → Sent may n j sends.now → left_at mode master other < n → right_at mode master other < n → result ≡ weighed (T.pricing tariff.now) (fits mode master other && allowed may (releases j mode (left_at mode master other) (right_at mode master other))) mode other (own_price (T.pricing tariff.now) (releases j mode (left_at mode master other) (right_at mode master other))) (Some left) (Some right) }
 {
     if !is_option(sends, mode, master, other) {
         return None;
@@ -87,7 +86,7 @@ fn best_by<T: Tariff>(
     mode: Mode,
 ) -> Option<Place<T::Price>>
     requires { master < table.now.servers }
-    ensures { (may : ℕ → Shape → Bool) (j : Pair) → Sent may table.now.servers j sends.now → result ≡ best_of_mode (pricing_of T.Tariff.free T.Tariff.sum T.Tariff.leq T.Tariff.release tariff.now) may table.now.servers j (place_at table.now.places.now table.now.servers operands.left) (place_at table.now.places.now table.now.servers operands.right) master mode }
+    ensures { (may : ℕ → Shape → Bool) (j : Pair) → Sent may table.now.servers j sends.now → result ≡ best_of_mode (T.pricing tariff.now) may table.now.servers j (place_at table.now.places.now table.now.servers operands.left) (place_at table.now.places.now table.now.servers operands.right) master mode }
 {
     let mut best: Option<Place<T::Price>> = None;
     for other in 0..table.servers {
@@ -112,7 +111,7 @@ pub(crate) fn best_option<T: Tariff>(
     master: u16,
 ) -> Option<Place<T::Price>>
     requires { master < table.now.servers }
-    ensures { (may : ℕ → Shape → Bool) (j : Pair) → Sent may table.now.servers j sends.now → result ≡ best (pricing_of T.Tariff.free T.Tariff.sum T.Tariff.leq T.Tariff.release tariff.now) may table.now.servers j (place_at table.now.places.now table.now.servers operands.left) (place_at table.now.places.now table.now.servers operands.right) master }
+    ensures { (may : ℕ → Shape → Bool) (j : Pair) → Sent may table.now.servers j sends.now → result ≡ best (T.pricing tariff.now) may table.now.servers j (place_at table.now.places.now table.now.servers operands.left) (place_at table.now.places.now table.now.servers operands.right) master }
 {
     let local = best_by(tariff, sends, table, operands, master, Mode::Local);
     let left = best_by(tariff, sends, table, operands, master, Mode::LeftMaster);

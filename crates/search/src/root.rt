@@ -2,7 +2,6 @@ ghost use Rattle.std.specs.Prelude.{◌≡◌, ℕ, ◌-◌, ◌<◌, ◌≤◌,
 ghost use Rattle.assignments.specs.Cheapest.{better as cheaper, cheapest};
 ghost use Rattle.search.specs.Rows.{place_at};
 ghost use Rattle.search.specs.Root.{seat_of, empty_row, first_of};
-ghost use Rattle.tariff.specs.Pricing.{pricing_of};
 
 use crate::table::Table;
 use tariff::Tariff;
@@ -20,7 +19,7 @@ fn better_seat<T: Tariff>(
     first: Option<Seat<T::Price>>,
     second: Seat<T::Price>,
 ) -> Option<Seat<T::Price>>
-    ensures { result ≡ cheaper (pricing_of T.Tariff.free T.Tariff.sum T.Tariff.leq T.Tariff.release tariff.now).leq (λ q. q.price) first (Some second) }
+    ensures { result ≡ cheaper (T.pricing tariff.now).leq (λ q. q.price) first (Some second) }
 {
     let Some(x) = first else {
         return Some(second);
@@ -38,7 +37,7 @@ pub(crate) fn choose<T: Tariff>(
     table: &Table<T::Price>,
     node: u16,
 ) -> Option<Seat<T::Price>>
-    ensures { result ≡ cheapest (pricing_of T.Tariff.free T.Tariff.sum T.Tariff.leq T.Tariff.release tariff.now).leq (λ q. q.price) (λ s. seat_of s (place_at table.now.places.now table.now.servers node s)) table.now.servers }
+    ensures { result ≡ cheapest (T.pricing tariff.now).leq (λ q. q.price) (λ s. seat_of s (place_at table.now.places.now table.now.servers node s)) table.now.servers }
 {
     let mut best: Option<Seat<T::Price>> = None;
     for server in 0..table.servers {

@@ -10,7 +10,6 @@ ghost use Rattle.queries.specs.Sound.{Sound};
 ghost use Rattle.assignments.specs.Table.{kept};
 ghost use Rattle.search.specs.Rows.{place_at, leaf_place, place_from, Row, Filled};
 ghost use Rattle.search.specs.Sources.{Sourced, Joinable};
-ghost use Rattle.tariff.specs.Pricing.{pricing_of};
 
 use crate::options::{Operands, best_option};
 use crate::sends::{Sends, sends_of};
@@ -31,15 +30,9 @@ pub(crate) enum Source {
 
 // The place of a leaf at a server: it costs nothing at its relation's own, and is nowhere else.
 fn leaf_place<T: Tariff>(tariff: &T, home: Option<u16>, server: u16) -> Option<Place<T::Price>>
-    ensures { result ≡ leaf_place (pricing_of T.Tariff.free T.Tariff.sum T.Tariff.leq T.Tariff.release tariff.now) home server }
+    ensures { result ≡ leaf_place (T.pricing tariff.now) home server }
 {
-    let Some(own) = home else {
-        return None;
-    };
-    if own != server {
-        return None;
-    }
-    Some(Place {
+    (home == Some(server)).then(|| Place {
         price: tariff.nothing(),
         mode: Mode::Local,
         other: server,
@@ -50,13 +43,10 @@ fn leaf_place<T: Tariff>(tariff: &T, home: Option<u16>, server: u16) -> Option<P
 fn kept_place<P: Copy>(server: u16, below: Option<Place<P>>) -> Option<Place<P>>
     ensures { result ≡ kept server below }
 {
-    let Some(place) = below else {
-        return None;
-    };
-    Some(Place {
-        price: place.price,
+    below.map(|place| Place {
         mode: Mode::Local,
         other: server,
+        ..place
     })
 }
 
@@ -68,7 +58,7 @@ fn place_of<T: Tariff>(
     table: &Table<T::Price>,
 ) -> Option<Place<T::Price>>
     requires { server < table.now.servers }
-    ensures { (l : Layout) (may : ℕ → Shape → Bool) (f : ℕ → Shape) (x : Part) → Sourced l may table.now.servers f x source.now → result ≡ place_from (pricing_of T.Tariff.free T.Tariff.sum T.Tariff.leq T.Tariff.release tariff.now) may table.now.servers l f x (place_at table.now.places.now table.now.servers) server }
+    ensures { (l : Layout) (may : ℕ → Shape → Bool) (f : ℕ → Shape) (x : Part) → Sourced l may table.now.servers f x source.now → result ≡ place_from (T.pricing tariff.now) may table.now.servers l f x (place_at table.now.places.now table.now.servers) server }
 {
     match source {
         Source::Home(home) => leaf_place(tariff, *home, server),
@@ -85,7 +75,7 @@ pub(crate) fn fill_row<T: Tariff>(
     table: &mut Table<T::Price>,
 )
     requires { node * table.old.servers + table.old.servers ≤ length table.old.places.now }
-    ensures row { (l : Layout) (may : ℕ → Shape → Bool) (f : ℕ → Shape) (x : Part) → Sourced l may table.old.servers f x source.now → AllByRecursion (λ j. j < node) (used x) → Row table.old.servers node table.old.servers (place_from (pricing_of T.Tariff.free T.Tariff.sum T.Tariff.leq T.Tariff.release tariff.now) may table.old.servers l f x (place_at table.old.places.now table.old.servers)) table.old.places.now table.new.places.now }
+    ensures row { (l : Layout) (may : ℕ → Shape → Bool) (f : ℕ → Shape) (x : Part) → Sourced l may table.old.servers f x source.now → AllByRecursion (λ j. j < node) (used x) → Row table.old.servers node table.old.servers (place_from (T.pricing tariff.now) may table.old.servers l f x (place_at table.old.places.now table.old.servers)) table.old.places.now table.new.places.now }
     ensures servers { table.new.servers ≡ table.old.servers }
     ensures lent { table.new.places.ghost_name ≡ table.old.places.ghost_name }
 {
@@ -106,19 +96,10 @@ pub(crate) fn source_of<P: Policy>(policy: &P, node: Node, profiles: &[Profile])
         Node::Leaf { relation } => Source::Home(chart.server_of(relation)),
         Node::Project { operand, .. } | Node::Filter { operand, .. } => Source::Operand(operand),
         Node::Join { left, right, link } => {
-            let pair = Join::new(
-                chart,
-                profiles[left as usize],
-                profiles[right as usize],
-                link,
-            );
-            match pair {
-                Some(join) => Source::Options(
-                    Operands { left, right },
-                    sends_of(policy, chart.servers(), &join),
-                ),
-                None => unreachable(),
-            }
+            let (a, b) = (profiles[left as usize], profiles[right as usize]);
+            let join = Join::new(chart, a, b, link).unwrap();
+            let sends = sends_of(policy, chart.servers(), &join);
+            Source::Options(Operands { left, right }, sends)
         }
     }
 }

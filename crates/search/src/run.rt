@@ -5,7 +5,6 @@ ghost use Rattle.queries.specs.Questions.{node_profile, verdict};
 ghost use Rattle.queries.specs.Sound.{Sound};
 ghost use Rattle.search.specs.Rows.{place_at, Filled};
 ghost use Rattle.search.specs.Outcomes.{read_from, outcome_of, search_answer, TableAfter, Found};
-ghost use Rattle.tariff.specs.Pricing.{pricing_of};
 
 use crate::fill::fill_table;
 use crate::root::{Seat, choose, lowest_empty};
@@ -33,7 +32,7 @@ pub struct Searched<P> {
 // What a filled table says of the root.
 fn read_outcome<T: Tariff>(tariff: &T, table: &Table<T::Price>, count: u16) -> Outcome<T::Price>
     requires { 0 < count }
-    ensures { result ≡ read_from (pricing_of T.Tariff.free T.Tariff.sum T.Tariff.leq T.Tariff.release tariff.now) table.now.servers count (place_at table.now.places.now table.now.servers) }
+    ensures { result ≡ read_from (T.pricing tariff.now) table.now.servers count (place_at table.now.places.now table.now.servers) }
 {
     match choose(tariff, table, count - 1) {
         Some(seat) => Outcome::Seated(seat),
@@ -53,8 +52,8 @@ fn run_search<P: Policy, T: Tariff>(
     requires profiles { (k : ℕ) → k < length nodes.now → slice_index_or profiles.now k blank ≡ node_profile (layout (P.Policy.charted policy.now)) nodes.now k }
     requires sized { length nodes.now ≤ length profiles.now }
     requires room { length nodes.now * (layout (P.Policy.charted policy.now)).servers ≤ length work.old }
-    ensures outcome { result ≡ outcome_of (pricing_of T.Tariff.free T.Tariff.sum T.Tariff.leq T.Tariff.release tariff.now) (P.Policy.reading policy.now (P.Policy.rules policy.now)) (layout (P.Policy.charted policy.now)) nodes.now }
-    ensures filled { Filled (pricing_of T.Tariff.free T.Tariff.sum T.Tariff.leq T.Tariff.release tariff.now) (P.Policy.reading policy.now (P.Policy.rules policy.now)) (layout (P.Policy.charted policy.now)) nodes.now (length nodes.now) work.old work.new }
+    ensures outcome { result ≡ outcome_of (T.pricing tariff.now) (P.Policy.reading policy.now (P.Policy.rules policy.now)) (layout (P.Policy.charted policy.now)) nodes.now }
+    ensures filled { Filled (T.pricing tariff.now) (P.Policy.reading policy.now (P.Policy.rules policy.now)) (layout (P.Policy.charted policy.now)) nodes.now (length nodes.now) work.old work.new }
 {
     let servers = policy.chart().servers();
     let mut table = Table {
@@ -74,8 +73,8 @@ pub fn search_tree<P: Policy, T: Tariff>(
     work: &mut [Option<Place<T::Price>>],
 ) -> Result<Searched<T::Price>, TreeRefusal>
     ensures answer { verdict result ≡ search_answer (layout (P.Policy.charted policy.now)) nodes.now (length work.old) }
-    ensures table { TableAfter (pricing_of T.Tariff.free T.Tariff.sum T.Tariff.leq T.Tariff.release tariff.now) (P.Policy.reading policy.now (P.Policy.rules policy.now)) (layout (P.Policy.charted policy.now)) nodes.now work.old work.new (verdict result) }
-    ensures found { IfOk result (λ v. Found (pricing_of T.Tariff.free T.Tariff.sum T.Tariff.leq T.Tariff.release tariff.now) (P.Policy.reading policy.now (P.Policy.rules policy.now)) (layout (P.Policy.charted policy.now)) nodes.now v) }
+    ensures table { TableAfter (T.pricing tariff.now) (P.Policy.reading policy.now (P.Policy.rules policy.now)) (layout (P.Policy.charted policy.now)) nodes.now work.old work.new (verdict result) }
+    ensures found { IfOk result (λ v. Found (T.pricing tariff.now) (P.Policy.reading policy.now (P.Policy.rules policy.now)) (layout (P.Policy.charted policy.now)) nodes.now v) }
 {
     if !has_fit_count(nodes) {
         return Err(TreeRefusal::Count);
@@ -84,11 +83,7 @@ pub fn search_tree<P: Policy, T: Tariff>(
     if work.len() < nodes.len() * chart.servers() as usize {
         return Err(TreeRefusal::Room);
     }
-    match check_tree(chart, nodes) {
-        Ok(profiles) => Ok(Searched {
-            profiles,
-            outcome: run_search(policy, tariff, nodes, &profiles, work),
-        }),
-        Err(refusal) => Err(refusal),
-    }
+    let profiles = check_tree(chart, nodes)?;
+    let outcome = run_search(policy, tariff, nodes, &profiles, work);
+    Ok(Searched { profiles, outcome })
 }

@@ -5,7 +5,6 @@ ghost use Rattle.profile.specs.declared.join.Join.{Join as Pair};
 ghost use Rattle.assignments.specs.Modes.{releases, allowed};
 ghost use Rattle.assignments.specs.Assignments.{own_price};
 ghost use Rattle.search.specs.Sends.{Told, Sent};
-ghost use Rattle.tariff.specs.Pricing.{pricing_of};
 
 use assignments::Mode;
 use policy::Policy;
@@ -31,17 +30,6 @@ pub(crate) struct Sends {
     right_reply: Sending,
 }
 
-// The set with a server too.
-fn with_server(set: SmallSet, server: u16) -> SmallSet
-    requires { server < 64 }
-    ensures { (s : ℕ) → has result s ≡ (has set s || server == s) }
-{
-    match set.insert(server) {
-        Some(more) => more,
-        None => unreachable(),
-    }
-}
-
 // Asks the policy, for each server, whether it may see the profile.
 fn with_receivers<P: Policy>(policy: &P, servers: u16, profile: Profile) -> Sending
     requires { servers ≤ 16 }
@@ -50,7 +38,7 @@ fn with_receivers<P: Policy>(policy: &P, servers: u16, profile: Profile) -> Send
     let mut receivers = SmallSet::empty();
     for server in 0..servers {
         if policy.allows(server, &profile) {
-            receivers = with_server(receivers, server);
+            receivers = receivers.insert(server).unwrap_or(receivers);
         }
     }
     Sending { profile, receivers }
@@ -97,7 +85,7 @@ pub(crate) fn price_of<T: Tariff>(
     left: u16,
     right: u16,
 ) -> T::Price
-    ensures { (may : ℕ → Shape → Bool) (n : ℕ) (j : Pair) → Sent may n j sends.now → result ≡ own_price (pricing_of T.Tariff.free T.Tariff.sum T.Tariff.leq T.Tariff.release tariff.now) (releases j mode left right) }
+    ensures { (may : ℕ → Shape → Bool) (n : ℕ) (j : Pair) → Sent may n j sends.now → result ≡ own_price (T.pricing tariff.now) (releases j mode left right) }
 {
     match mode {
         Mode::Local => tariff.nothing(),

@@ -1,4 +1,4 @@
-ghost use Rattle.std.specs.Prelude.{◌≡◌, ◌+◌, ◌*◌, None, slice_index_or, slice_set};
+ghost use Rattle.std.specs.Prelude.{◌≡◌, ◌+◌, ◌*◌, slice_set};
 ghost use Rattle.search.specs.Rows.{place_at};
 
 use assignments::Place;
@@ -11,29 +11,19 @@ pub struct Table<'a, P> {
     pub servers: u16,
 }
 
-// The place at this index.
-fn read_place<P: Copy>(places: &[Option<Place<P>>], k: usize) -> Option<Place<P>>
-    ensures { result ≡ slice_index_or places.now k None }
-{
-    if k < places.len() { places[k] } else { None }
-}
-
-// Writes the place at this index.
-fn write_place<P: Copy>(places: &mut [Option<Place<P>>], k: usize, place: Option<Place<P>>)
-    ensures { places.new ≡ slice_set places.old k place }
-{
-    if k < places.len() {
-        places[k] = place;
-    }
-}
-
 impl<'a, P: Copy> Table<'a, P> {
+    // Where the place of a node at a server is.
+    fn index(&self, node: u16, server: u16) -> usize
+        ensures { result ≡ node * self.now.servers + server }
+    {
+        usize::from(node) * usize::from(self.servers) + usize::from(server)
+    }
+
     // The place of a node at a server.
     pub fn at(&self, node: u16, server: u16) -> Option<Place<P>>
         ensures { result ≡ place_at self.now.places.now self.now.servers node server }
     {
-        let k = node as usize * self.servers as usize + server as usize;
-        read_place(self.places, k)
+        self.places.get(self.index(node, server)).copied().flatten()
     }
 
     // Writes the place of a node at a server; all other places stay.
@@ -42,7 +32,9 @@ impl<'a, P: Copy> Table<'a, P> {
         ensures servers { self.new.servers ≡ self.old.servers }
         ensures lent { self.new.places.ghost_name ≡ self.old.places.ghost_name }
     {
-        let k = node as usize * self.servers as usize + server as usize;
-        write_place(self.places, k, place);
+        let k = self.index(node, server);
+        if k < self.places.len() {
+            self.places[k] = place;
+        }
     }
 }

@@ -19,7 +19,3 @@ pub record Lawful {P : Type 0} (c : Pricing P) : Type 0 where
   pub transitive : (x y z : P) → c.leq x y ≡ true → c.leq y z ≡ true → c.leq x z ≡ true
   pub left : (x y z : P) → c.leq x y ≡ true → c.leq (c.sum x z) (c.sum y z) ≡ true
   pub right : (x y z : P) → c.leq x y ≡ true → c.leq (c.sum z x) (c.sum z y) ≡ true
-
--- what a tariff's four members mean together, at one tariff
-abbrev pub pricing_of : {S P : Type 0} → (S → P) → (S → P → P → P) → (S → P → P → Bool) → (S → ℕ → ℕ → Profile → P) → S → Pricing P
-pricing_of free sum leq release t = record { free = free t; sum = sum t; leq = leq t; release = release t }

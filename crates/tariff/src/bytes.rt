@@ -1,6 +1,6 @@
-ghost use Rattle.std.specs.Prelude.{◌≡◌, ◌+◌, nat_le};
+ghost use Rattle.std.specs.Prelude.{◌≡◌};
 ghost use Rattle.chart.specs.Charts.{layout};
-ghost use Rattle.tariff.specs.Bytes.{capped, shown_bytes};
+ghost use Rattle.tariff.specs.Bytes.{shown_bytes, byte_pricing};
 ghost use Rattle.std.proofs.Common.{rules};
 
 use crate::traits::Tariff;
@@ -39,21 +39,9 @@ impl ByteTariff {
 impl Tariff for ByteTariff {
     type Price = u32;
 
-    ghost free = { λ t. 0 };
+    ghost pricing = { λ t. byte_pricing (layout t.chart) };
 
-    ghost sum = { λ t a b. capped (a + b) };
-
-    ghost leq = { λ t. nat_le };
-
-    ghost release = { λ t sender receiver p. shown_bytes (layout t.chart) p.shown };
-
-    ghost total = { Prim.search rules };
-
-    ghost transitive = { Prim.search rules };
-
-    ghost left = { Prim.search rules };
-
-    ghost right = { Prim.search rules };
+    ghost lawful = { λ t. record { total = Prim.search rules; transitive = Prim.search rules; left = Prim.search rules; right = Prim.search rules } };
 
     fn nothing(&self) -> u32 {
         0

@@ -1,7 +1,6 @@
-ghost use Rattle.std.specs.Prelude.{◌≡◌, Some, nat_le};
+ghost use Rattle.std.specs.Prelude.{◌≡◌};
 ghost use Rattle.chart.specs.Charts.{layout};
-ghost use Rattle.chart.specs.Lookup.{grade_of};
-ghost use Rattle.tariff.specs.Grades.{rank, worse, no_grade};
+ghost use Rattle.tariff.specs.Grades.{rank, grade_pricing};
 ghost use Rattle.std.proofs.Common.{rules};
 
 use crate::traits::Tariff;
@@ -12,18 +11,6 @@ use profile::Profile;
 #[derive(Clone, Copy)]
 pub struct GradeTariff {
     chart: Chart,
-}
-
-// The place of a price in rising order.
-fn rank_of(price: Option<Grade>) -> u16
-    ensures { result ≡ rank price }
-{
-    match price {
-        None => 0,
-        Some(Grade::Quay) => 1,
-        Some(Grade::Leased) => 2,
-        Some(Grade::Public) => 3,
-    }
 }
 
 impl GradeTariff {
@@ -38,32 +25,20 @@ impl GradeTariff {
 impl Tariff for GradeTariff {
     type Price = Option<Grade>;
 
-    ghost free = { λ t. no_grade };
+    ghost pricing = { λ t. grade_pricing (layout t.chart) };
 
-    ghost sum = { λ t. worse };
-
-    ghost leq = { λ t a b. nat_le (rank a) (rank b) };
-
-    ghost release = { λ t sender receiver p. Some (grade_of (layout t.chart) sender receiver) };
-
-    ghost total = { Prim.search rules };
-
-    ghost transitive = { Prim.search rules };
-
-    ghost left = { Prim.search rules };
-
-    ghost right = { Prim.search rules };
+    ghost lawful = { λ t. record { total = Prim.search rules; transitive = Prim.search rules; left = Prim.search rules; right = Prim.search rules } };
 
     fn nothing(&self) -> Option<Grade> {
         None
     }
 
     fn join(&self, a: Option<Grade>, b: Option<Grade>) -> Option<Grade> {
-        if rank_of(a) <= rank_of(b) { b } else { a }
+        a.max(b)
     }
 
     fn at_most(&self, a: Option<Grade>, b: Option<Grade>) -> bool {
-        rank_of(a) <= rank_of(b)
+        a <= b
     }
 
     fn price(&self, sender: u16, receiver: u16, _profile: &Profile) -> Option<Grade> {

@@ -1,5 +1,5 @@
-ghost use Rattle.std.specs.Prelude.{◌≡◌, ℕ, Bool, true, ◌||◌};
-ghost use Rattle.profile.specs.declared.shape.Profile.{Profile};
+ghost use Rattle.std.specs.Prelude.{◌≡◌};
+ghost use Rattle.tariff.specs.Pricing.{Pricing, Lawful};
 
 use profile::Profile;
 
@@ -7,36 +7,21 @@ use profile::Profile;
 pub trait Tariff {
     type Price: Copy;
 
-    // the price of nothing
-    ghost free: { Self → Self.Price };
-
-    // two prices joined
-    ghost sum: { Self → Self.Price → Self.Price → Self.Price };
-
-    // whether the first price is at most the second; prices that are at most each other may differ
-    ghost leq: { Self → Self.Price → Self.Price → Bool };
-
-    // the price of a release: sender, receiver, profile
-    ghost release: { Self → ℕ → ℕ → Profile → Self.Price };
+    // what a tariff means: the price of nothing, prices joined and compared, and the price of a release
+    ghost pricing: { Self → Pricing Self.Price };
 
     fn nothing(&self) -> Self::Price
-        ensures { result ≡ free self.now };
+        ensures { result ≡ (pricing self.now).free };
 
     fn join(&self, a: Self::Price, b: Self::Price) -> Self::Price
-        ensures { result ≡ sum self.now a b };
+        ensures { result ≡ (pricing self.now).sum a b };
 
     fn at_most(&self, a: Self::Price, b: Self::Price) -> bool
-        ensures { result ≡ leq self.now a b };
+        ensures { result ≡ (pricing self.now).leq a b };
 
     fn price(&self, sender: u16, receiver: u16, profile: &Profile) -> Self::Price
-        ensures { result ≡ release self.now sender receiver profile.now };
+        ensures { result ≡ (pricing self.now).release sender receiver profile.now };
 
-    ghost total: { (s : Self) (a b : Self.Price) → (leq s a b || leq s b a) ≡ true };
-
-    ghost transitive: { (s : Self) (a b c : Self.Price) → leq s a b ≡ true → leq s b c ≡ true → leq s a c ≡ true };
-
-    // Joining an equal or dearer price on either side never gives a cheaper sum.
-    ghost left: { (s : Self) (a b c : Self.Price) → leq s a b ≡ true → leq s (sum s a c) (sum s b c) ≡ true };
-
-    ghost right: { (s : Self) (a b c : Self.Price) → leq s a b ≡ true → leq s (sum s c a) (sum s c b) ≡ true };
+    // The comparison is total and transitive, and joining an equal or dearer price on either side never gives a cheaper sum.
+    ghost lawful: { (s : Self) → Lawful (pricing s) };
 }

@@ -8,7 +8,6 @@ use Rattle.broker.specs.declared.run.Call.TheVariants.{Enter}
 use Rattle.broker.specs.Runs.{state_by, answers_to, Led}
 use Rattle.broker.proofs.RunSteps.{led_none, stepped_as, answer_more, led_more, answers_more}
 use Rattle.broker.proofs.run.run_all.Goals as goal
-use Rattle.tariff.specs.Pricing.{pricing_of}
 
 abbrev no_call : Call
 no_call = Enter (record { number = 0; view = record { server = 0; attributes = none; path = none } })
@@ -23,7 +22,7 @@ loop-i-preserved g c =
     let l = layout (g.B.Policy.charted b) in
     let fits = g.B.Book.fits b in
     let reading = g.B.Policy.reading b in
-    let pricing = pricing_of g.T.Tariff.free g.T.Tariff.sum g.T.Tariff.leq g.T.Tariff.release c.args.tariff.now in
+    let pricing = g.T.Tariff.pricing c.args.tariff.now in
     let calls = c.args.calls.now in
     let i = c.loop-i.i in
     let k = get_or calls i no_call in
@@ -53,7 +52,7 @@ returns g c =
     let l = layout (g.B.Policy.charted b) in
     let fits = g.B.Book.fits b in
     let reading = g.B.Policy.reading b in
-    let pricing = pricing_of g.T.Tariff.free g.T.Tariff.sum g.T.Tariff.leq g.T.Tariff.release c.args.tariff.now in
+    let pricing = g.T.Tariff.pricing c.args.tariff.now in
     let calls = c.args.calls.now in
     let inv = c.loop-i.invariant in
     let i = c.loop-i.i in

@@ -4,7 +4,6 @@ use Rattle.rules.specs.declared.view.RuleRecord.{RuleRecord}
 use Rattle.policy.specs.Same.{Same}
 use Rattle.broker.specs.Runs.{state_by, answers_to, Led}
 use Rattle.broker.proofs.run.run_all.Given as goal
-use Rattle.tariff.specs.Pricing.{pricing_of}
 
 -- the calls so far were answered, and led here
 abbrev pub invariant-loop-i : goal.invariant-loop-i
@@ -13,7 +12,7 @@ invariant-loop-i g l =
     let chart = layout (g.B.Policy.charted b) in
     let fits = g.B.Book.fits b in
     let reading = g.B.Policy.reading b in
-    let c = pricing_of g.T.Tariff.free g.T.Tariff.sum g.T.Tariff.leq g.T.Tariff.release l.tariff in
+    let c = g.T.Tariff.pricing l.tariff in
     ((rules : List RuleRecord) → Same (g.B.Policy.rules b) rules
     → (l.answers ≡ answers_to chart fits reading c (state_by l.initial.work l.initial.plan l.initial.releases rules) (take l.i l.calls) ++ drop l.i l.initial.answers)
     × Led chart fits reading c (g.B.Policy.rules b) (state_by l.initial.work l.initial.plan l.initial.releases rules) (take l.i l.calls) (g.B.Policy.rules l.broker.book) l.work l.plan l.releases)

@@ -12,14 +12,13 @@ use Rattle.planner.specs.Queries.{AnsweredBy, answer_by, plan_by, releases_by}
 use Rattle.planner.proofs.Buffers.{table_is}
 use Rattle.planner.proofs.Queried.{no_room, as_searched, refused_by, accepted_by, judged_by}
 use Rattle.planner.proofs.query.plan_query.Goals as goal
-use Rattle.tariff.specs.Pricing.{pricing_of}
 
 pub returns-then-plan-nodes : goal.returns-then-plan-nodes
 returns-then-plan-nodes g c =
     let l = layout (g.P.Policy.charted c.args.policy.now) in
     let nodes = c.args.nodes.now in
     let fit : count_fits nodes ≡ true = sym c.has_fit_count.ensures ∙ c.if-not-has_fit_count.false in
-    let r = refused_by (pricing_of g.T.Tariff.free g.T.Tariff.sum g.T.Tariff.leq g.T.Tariff.release c.args.tariff.now) (g.P.Policy.reading c.args.policy.now (g.P.Policy.rules c.args.policy.now)) l nodes c.args.work.now c.args.plan.now c.args.releases.now Room
+    let r = refused_by (g.T.Tariff.pricing c.args.tariff.now) (g.P.Policy.reading c.args.policy.now (g.P.Policy.rules c.args.policy.now)) l nodes c.args.work.now c.args.plan.now c.args.releases.now Room
     (no_room l nodes (length c.args.work.now) (length c.args.plan.now) (length c.args.releases.now) fit c.then-plan-nodes.either) in
     record { answer = r.answer; work = r.same_work; plan = r.same_plan; releases = r.same_releases; judged = tt }
 
@@ -39,8 +38,7 @@ returns-in-Ok g c =
     let l = layout (g.P.Policy.charted c.args.policy.now) in
     let may = g.P.Policy.reading c.args.policy.now (g.P.Policy.rules c.args.policy.now) in
     let t = c.args.tariff.now in
-    let m = g.met.T.Tariff in
-    let pricing = pricing_of g.T.Tariff.free g.T.Tariff.sum g.T.Tariff.leq g.T.Tariff.release t in
+    let pricing = g.T.Tariff.pricing t in
     let nodes = c.args.nodes.now in
     let work = c.args.work.now in
     let plan = c.args.plan.now in
@@ -64,6 +62,6 @@ returns-in-Ok g c =
       work = c.answer_found.ensures.work ∙ table_is pricing may l nodes work new charted.some_server h.table ∙ yes'.filled;
       plan = planned ∙ yes'.planned;
       releases = listed ∙ yes'.listed;
-      judged = judged_by pricing may l nodes work plan releases (record { total = m.total t; transitive = m.transitive t; left = m.left t; right = m.right t }) charted h.found.sound new h.table c.if-plan-nodes.false
+      judged = judged_by pricing may l nodes work plan releases (g.met.T.Tariff.lawful t) charted h.found.sound new h.table c.if-plan-nodes.false
           _ _ _ _ c.answer_found.ensures.work planned listed answer;
     }

@@ -1,16 +1,13 @@
-use Rattle.std.proofs.Common.{sym, ◌∙◌}
+use Rattle.std.proofs.Common.{◌≡◌, true, false, arith, rules, tests}
+use Rattle.std.proofs.lemmas.Iterator.{first_from_Range}
 use Rattle.sets.specs.Sets.{has}
-use Rattle.queries.proofs.Uses.{uses_none, unused_at, used_at, used_all}
+use Rattle.queries.proofs.Uses.{unused_first}
 use Rattle.queries.proofs.check.check_used.Goals as goal
 
-pub loop-j-init : goal.loop-j-init
-loop-j-init c = uses_none (has c.args.used) c.args.count 0
-
-pub loop-j-preserved : goal.loop-j-preserved
-loop-j-preserved c = used_at (has c.args.used) c.args.count c.loop-j.j c.loop-j.invariant c.loop-j-test.true (sym c.contains.ensures ∙ c.if-not-contains.false)
-
-pub returns-then-not-contains : goal.returns-then-not-contains
-returns-then-not-contains c = unused_at (has c.args.used) c.args.count c.loop-j.j c.loop-j.invariant c.loop-j-test.true (sym c.contains.ensures ∙ c.if-not-contains.true)
-
 pub returns : goal.returns
-returns c = used_all (has c.args.used) c.args.count c.loop-j.j c.loop-j.invariant c.loop-j-test.false
+returns c =
+    unused_first (has c.args.used) c.args.count c.find.result c.map_or.result
+    (first_from_Range _ _ _ _ (λ i. has c.args.used i ≡ false) (λ i. has c.args.used i ≡ true) c.find.ensures.ran
+    (λ x q k. grind (arith, tests))
+    (λ x q k. (search rules, grind (arith, tests))))
+    (search rules)

@@ -7,7 +7,6 @@ use Rattle.search.specs.Rows.{place_at, place_from, Row, Filled}
 use Rattle.search.specs.Sources.{Sourced}
 use Rattle.search.proofs.Filling.{all_before, filled_none, filled_more, joinable}
 use Rattle.search.proofs.fill.fill_table.Goals as goal
-use Rattle.tariff.specs.Pricing.{pricing_of}
 
 pub loop-i-init : goal.loop-i-init
 loop-i-init g c = (filled_none _ _ _ _ _, refl, refl)
@@ -34,7 +33,7 @@ pub loop-i-preserved : goal.loop-i-preserved
 loop-i-preserved g c =
     let l = layout (g.P.Policy.charted c.args.policy.now) in
     let may = g.P.Policy.reading c.args.policy.now (g.P.Policy.rules c.args.policy.now) in
-    let pricing = pricing_of g.T.Tariff.free g.T.Tariff.sum g.T.Tariff.leq g.T.Tariff.release c.args.tariff.now in
+    let pricing = g.T.Tariff.pricing c.args.tariff.now in
     let nodes = c.args.nodes.now in
     let i = c.loop-i.i in
     let x = node nodes i in
@@ -54,7 +53,7 @@ returns g c =
     let nodes = c.args.nodes.now in
     let z : c.loop-i.i ≡ length nodes = omega arith in
     record {
-      filled = subst (λ (k : ℕ). Filled (pricing_of g.T.Tariff.free g.T.Tariff.sum g.T.Tariff.leq g.T.Tariff.release c.args.tariff.now) (g.P.Policy.reading c.args.policy.now (g.P.Policy.rules c.args.policy.now)) (layout (g.P.Policy.charted c.args.policy.now)) nodes k c.args.table.now.places.now c.loop-i.table.places.now) z c.loop-i.invariant.0;
+      filled = subst (λ (k : ℕ). Filled (g.T.Tariff.pricing c.args.tariff.now) (g.P.Policy.reading c.args.policy.now (g.P.Policy.rules c.args.policy.now)) (layout (g.P.Policy.charted c.args.policy.now)) nodes k c.args.table.now.places.now c.loop-i.table.places.now) z c.loop-i.invariant.0;
       servers = c.loop-i.invariant.1;
       lent = c.loop-i.invariant.2;
     }

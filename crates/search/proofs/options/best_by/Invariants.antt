@@ -6,12 +6,11 @@ use Rattle.assignments.specs.Table.{offer}
 use Rattle.search.specs.Rows.{place_at}
 use Rattle.search.specs.Sends.{Sent}
 use Rattle.search.proofs.options.best_by.Given as goal
-use Rattle.tariff.specs.Pricing.{pricing_of}
 
 -- the best of the options so far
 abbrev pub invariant-loop-other : goal.invariant-loop-other
 invariant-loop-other g l =
-    let c = pricing_of g.T.Tariff.free g.T.Tariff.sum g.T.Tariff.leq g.T.Tariff.release l.tariff in
+    let c = g.T.Tariff.pricing l.tariff in
     let n = l.table.servers in
     let places = l.table.places.now in
     (may : ℕ → Profile → Bool) (j : Join) → Sent may n j l.sends

@@ -4,7 +4,6 @@ use Rattle.assignments.specs.Assignments.{own_price}
 use Rattle.assignments.specs.Table.{holding}
 use Rattle.search.proofs.Offers.{weighed_shut, weighed_open}
 use Rattle.search.proofs.options.offer.Goals as goal
-use Rattle.tariff.specs.Pricing.{pricing_of}
 
 pub returns-then-not-is_option : goal.returns-then-not-is_option
 returns-then-not-is_option g c = λ may n j h x y.
@@ -12,7 +11,7 @@ returns-then-not-is_option g c = λ may n j h x y.
     let s = c.args.master in
     let u = c.args.other in
     let sent = releases j m (left_at m s u) (right_at m s u) in
-    let t = pricing_of g.T.Tariff.free g.T.Tariff.sum g.T.Tariff.leq g.T.Tariff.release c.args.tariff.now in
+    let t = g.T.Tariff.pricing c.args.tariff.now in
     sym (weighed_shut t (fits m s u && allowed may sent) m u (own_price t sent) _ _ (sym (c.is_option.ensures may n j h x y) ∙ c.if-not-is_option.true))
 
 pub returns : goal.returns
@@ -21,7 +20,7 @@ returns g c = λ may n j h x y.
     let s = c.args.master in
     let u = c.args.other in
     let sent = releases j m (left_at m s u) (right_at m s u) in
-    let t = pricing_of g.T.Tariff.free g.T.Tariff.sum g.T.Tariff.leq g.T.Tariff.release c.args.tariff.now in
+    let t = g.T.Tariff.pricing c.args.tariff.now in
     let own : c.price_of-own.result ≡ own_price t sent =
     c.price_of-own.ensures may n j h ∙ ap₂ (λ a b. own_price t (releases j m a b)) c.left_at-left_at.ensures c.right_at-right_at.ensures in
     let price = c.join.ensures ∙ ap₂ t.sum c.join-operands.ensures own in

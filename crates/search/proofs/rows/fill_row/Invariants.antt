@@ -7,7 +7,6 @@ use Rattle.queries.specs.Flat.{operands}
 use Rattle.search.specs.Rows.{place_at, place_from, Row}
 use Rattle.search.specs.Sources.{Sourced}
 use Rattle.search.proofs.rows.fill_row.Given as goal
-use Rattle.tariff.specs.Pricing.{pricing_of}
 
 -- the first places of the row are written
 abbrev pub invariant-loop-server : goal.invariant-loop-server
@@ -15,5 +14,5 @@ invariant-loop-server g l =
     let n = l.initial.table.servers in
     let old = l.initial.table.places.now in
     ((k : Layout) (may : ℕ → Profile → Bool) (f : ℕ → Profile) (x : Node) → Sourced k may n f x l.source → AllByRecursion (λ j. j < l.node) (operands x)
-    → Row n l.node l.server (place_from (pricing_of g.T.Tariff.free g.T.Tariff.sum g.T.Tariff.leq g.T.Tariff.release l.tariff) may n k f x (place_at old n)) old l.table.places.now)
+    → Row n l.node l.server (place_from (g.T.Tariff.pricing l.tariff) may n k f x (place_at old n)) old l.table.places.now)
     × (l.table.servers ≡ n) × (l.table.places.ghost_name ≡ l.initial.table.places.ghost_name)

@@ -5,13 +5,12 @@ use Rattle.search.specs.Rows.{place_at}
 use Rattle.search.specs.Outcomes.{read_from}
 use Rattle.search.proofs.Outcomes.{outcome_is}
 use Rattle.search.proofs.run.run_search.Goals as goal
-use Rattle.tariff.specs.Pricing.{pricing_of}
 
 pub returns : goal.returns
 returns g c =
     let l = layout (g.P.Policy.charted c.args.policy.now) in
     let may = g.P.Policy.reading c.args.policy.now (g.P.Policy.rules c.args.policy.now) in
-    let pricing = pricing_of g.T.Tariff.free g.T.Tariff.sum g.T.Tariff.leq g.T.Tariff.release c.args.tariff.now in
+    let pricing = g.T.Tariff.pricing c.args.tariff.now in
     let nodes = c.args.nodes.now in
     let new = c.fill_table.new.table.places.now in
     let n : c.fill_table.new.table.servers ≡ l.servers = c.fill_table.ensures.servers ∙ c.servers-servers.ensures ∙ ap (λ (v : Chart). (layout v).servers) c.chart.ensures in

@@ -7,10 +7,10 @@ use Rattle.queries.specs.Questions.{tree_questions, answered, count_fits, tree_a
 use Rattle.queries.specs.Sound.{Sound}
 use Rattle.search.proofs.run.search_tree.Goals as goal
 
-pub run_search-requires : goal.run_search-requires
-run_search-requires g c =
+pub run_search-outcome-requires : goal.run_search-outcome-requires
+run_search-outcome-requires g c =
     let nodes = c.args.nodes.now in
-    let h = c.in-Ok.ensures in
+    let h = c.in_ok-profiles.ensures in
     let e = c.chart-chart.ensures in
     let n = ap (λ (k : ℕ). length nodes * k) (c.servers.ensures ∙ ap (λ (v : Chart). (layout v).servers) e) in
     record {
@@ -20,11 +20,11 @@ run_search-requires g c =
       room = omega (arith, n, c.if-work-nodes.false);
     }
 
-pub returns-in-Ok : goal.returns-in-Ok
-returns-in-Ok g c =
+pub returns : goal.returns
+returns g c =
     let l = layout (g.P.Policy.charted c.args.policy.now) in
     let nodes = c.args.nodes.now in
-    let h = c.in-Ok.ensures in
+    let h = c.in_ok-profiles.ensures in
     let e = c.chart-chart.ensures in
     let n = ap (λ (k : ℕ). length nodes * k) (c.servers.ensures ∙ ap (λ (v : Chart). (layout v).servers) e) in
     let fit : count_fits nodes ≡ true = sym c.has_fit_count.ensures ∙ c.if-not-has_fit_count.false in
@@ -34,11 +34,11 @@ returns-in-Ok g c =
     record {
       answer = yes' ∙ sym (cond-true (leb (length nodes * l.servers) (length c.args.work.now)) (answered (tree_questions l nodes)) (Err Room) room)
           ∙ sym (cond-true (count_fits nodes) (cond (leb (length nodes * l.servers) (length c.args.work.now)) (answered (tree_questions l nodes)) (Err Room)) (Err Count) fit);
-      table = c.run_search.ensures.filled;
+      table = c.run_search-outcome.ensures.filled;
       found = record {
         sound = subst (λ (v : Chart). Sound (layout v) nodes) e h.sound;
         sized = h.sized;
         profiles = λ k b. h.profiles k b ∙ ap (λ (v : Chart). node_profile (layout v) nodes k) e;
-        outcome = c.run_search.ensures.outcome;
+        outcome = c.run_search-outcome.ensures.outcome;
       };
     }
