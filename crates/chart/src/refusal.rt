@@ -1,24 +1,26 @@
 ghost use Rattle.std.specs.Prelude.{◌≡◌};
 ghost use Rattle.chart.specs.Refusals.{refusal_number};
 
+use thiserror::Error;
+
 // Why a chart, or a setting that names parts of it, is refused.
-#[derive(Clone, Copy, PartialEq, Eq)]
+#[derive(Clone, Copy, Debug, PartialEq, Eq, Error)]
 pub enum ChartRefusal {
-    // not 1 to 16 servers
+    #[error("not 1 to 16 servers")]
     Servers = 10,
-    // a relation at a server that is not known
+    #[error("a relation at a server that is not known")]
     Home = 11,
-    // a relation without a width, or with a width of 0
+    #[error("a relation without a width, or with a width of 0")]
     Widths = 12,
-    // over 32 relations or 64 attributes
+    #[error("over 32 relations or 64 attributes")]
     Limits = 13,
-    // a link whose ends are not two known attributes of different relations
+    #[error("a link whose ends are not two known attributes of different relations")]
     Ends = 14,
-    // a 65th link
+    #[error("a 65th link")]
     LinkLimit = 15,
-    // a pair that is linked already, either way round
+    #[error("a pair that is linked already, either way round")]
     LinkRepeated = 16,
-    // a line whose servers are not two different known ones
+    #[error("a line whose servers are not two different known ones")]
     Line = 17,
 }
 

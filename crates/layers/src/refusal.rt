@@ -1,12 +1,14 @@
 ghost use Rattle.std.specs.Prelude.{◌≡◌};
 ghost use Rattle.layers.specs.Refusals.{refusal_number};
 
+use thiserror::Error;
+
 // Why a layer is refused.
-#[derive(Clone, Copy, PartialEq, Eq)]
+#[derive(Clone, Copy, Debug, PartialEq, Eq, Error)]
 pub enum LayerRefusal {
-    // a carrier or a denial that names what the chart does not have, or a denial without an attribute
+    #[error("a carrier or a denial that names what the chart does not have, or a denial without an attribute")]
     Unfit = 17,
-    // a 33rd denial
+    #[error("a 33rd denial")]
     TooMany = 18,
 }
 

@@ -1,16 +1,18 @@
 ghost use Rattle.std.specs.Prelude.{◌≡◌};
 ghost use Rattle.rules.specs.Refusals.{refusal_number};
 
+use thiserror::Error;
+
 // Why a rule is refused, whatever else is in force.
-#[derive(Clone, Copy, PartialEq, Eq)]
+#[derive(Clone, Copy, Debug, PartialEq, Eq, Error)]
 pub enum RuleRefusal {
-    // not a number from 1 to 999
+    #[error("not a number from 1 to 999")]
     Number = 20,
-    // a server that is not known
+    #[error("a server that is not known")]
     Server = 21,
-    // no attribute, or one that is not known
+    #[error("no attribute, or one that is not known")]
     Attributes = 22,
-    // a link that is not known, or a path that does not join the rule's relations into one tree
+    #[error("a link that is not known, or a path that does not join the rule's relations into one tree")]
     Path = 23,
 }
 

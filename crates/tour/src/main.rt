@@ -4,7 +4,7 @@
 mod parts;
 
 use crate::parts::{Sets, Steps, repeated_link, sample_sets, sample_steps, worked_cases};
-use anyhow::anyhow;
+use anyhow::Context;
 use chart::Chart;
 use composed::ComposedBook;
 use layers::{Carrier, Denial, Denials};
@@ -72,7 +72,7 @@ fn show_composition(rt: &HostRuntime, book: &mut ComposedBook, sets: &Sets) -> a
     let joined = Profile {
         shown: sets.ends,
         path: sets.link,
-        filtered: SmallSet::empty(),
+        ..Profile::default()
     };
     let none = SmallSet::empty();
     show_call(
@@ -93,17 +93,12 @@ fn show_composition(rt: &HostRuntime, book: &mut ComposedBook, sets: &Sets) -> a
 
 // A denial and a carrier over the same book.
 fn show_layers(rt: &HostRuntime, book: ComposedBook, sets: &Sets) -> anyhow::Result<()> {
-    let Ok(carried) = Carrier::new(book, Some(0)) else {
-        return Err(anyhow!("the carrier was refused"));
-    };
+    let carried = Carrier::new(book, Some(0))?;
     let denial = Denial {
         server: 2,
         attributes: sets.denied,
     };
-    let Ok(mut stack) = Denials::new(carried, &[denial]) else {
-        return Err(anyhow!("the denial was refused"));
-    };
-    let none = SmallSet::empty();
+    let mut stack = Denials::new(carried, &[denial])?;
     show_call(
         rt,
         "rule 3, server 2: 0,3,4 on path 0",
@@ -114,7 +109,7 @@ fn show_layers(rt: &HostRuntime, book: ComposedBook, sets: &Sets) -> anyhow::Res
             let profile = Profile {
                 shown,
                 path: sets.link,
-                filtered: none,
+                ..Profile::default()
             };
             show_question(rt, &stack, server, profile)?;
         }
@@ -124,21 +119,13 @@ fn show_layers(rt: &HostRuntime, book: ComposedBook, sets: &Sets) -> anyhow::Res
 
 fn main(rt: HostRuntime) -> anyhow::Result<()> {
     worked_cases();
-    let Ok(chart) = sample_chart() else {
-        return Err(anyhow!("the chart was refused"));
-    };
-    let Some(steps) = sample_steps(&chart) else {
-        return Err(anyhow!("a step was refused"));
-    };
-    let Some(refusal) = repeated_link(chart) else {
-        return Err(anyhow!("a repeated link was accepted"));
-    };
+    let chart = sample_chart()?;
+    let steps = sample_steps(&chart).context("a step was refused")?;
+    let refusal = repeated_link(chart).context("a repeated link was accepted")?;
     show_chart(&rt, &chart)?;
     show_steps(&rt, &steps)?;
     println!(rt; "link 3 = 0 again: refused {refusal}")?;
-    let Some(sets) = sample_sets() else {
-        return Err(anyhow!("a set was refused"));
-    };
+    let sets = sample_sets().context("a set was refused")?;
     let mut book = ComposedBook::new(chart);
     show_composition(&rt, &mut book, &sets)?;
     show_layers(&rt, book, &sets)
