@@ -1,0 +1,11 @@
+-- What a table of members lists.
+use Rattle.std.specs.Prelude.{◌≡◌, ◌<◌, List, length, take, Option, MatchOption}
+use Rattle.rules.specs.declared.view.View.{View}
+use Rattle.composed.specs.declared.table.MemberTable.{MemberTable}
+
+abbrev pub listed : MemberTable → List View
+listed t = take t.count t.places
+
+-- the table lists these views, or they are too many for it
+abbrev pub Fills : Option (Unit {0}) → MemberTable → List View → Type 0
+Fills r t views = MatchOption r (256 < length views) (λ u. listed t ≡ views)
