@@ -1,5 +1,5 @@
 -- Whether a table lists a view, and the turn of a loop that adds the views of slots.
-use Rattle.std.proofs.Common.{◌≡◌, ℕ, ◌+◌, ◌<◌, ◌≤◌, ◌&&◌, eqb, List, [], ◌∷◌, length, get_or, drop, Some, None, Option, sym, refl, ap, ◌∙◌, subst, arith}
+use Rattle.std.proofs.Common.{◌≡◌, ℕ, Bool, ◌+◌, ◌<◌, ◌≤◌, ◌&&◌, eqb, List, [], ◌∷◌, length, get_or, drop, Some, None, Option, sym, refl, ap, ◌∙◌, subst, arith}
 use Rattle.std.specs.List.{flat_map, list_any}
 use Rattle.std.proofs.lemmas.Bool.Decides.{nat_tests}
 use Rattle.std.proofs.lemmas.List.{at_drop_more, at_drop_all, get_or_read}
@@ -10,14 +10,19 @@ use Rattle.members.proofs.Turns.{new_none, new_step, new_over}
 use Rattle.policy.specs.Reading.{granted}
 use Rattle.books.specs.Slots.{held}
 use Rattle.composed.specs.declared.table.MemberTable.{MemberTable}
-use Rattle.composed.specs.Table.{Fills}
+use Rattle.composed.specs.Table.{listed, Fills}
 
 -- a list has a view where one of its views is that one
-pub any_among : (v : View) (vs : List View) → list_any (λ (w : View). eqb w.server v.server && (eqb w.attributes.bits v.attributes.bits && eqb w.path.bits v.path.bits)) vs ≡ among v vs
+any_among : (v : View) (vs : List View) → list_any (λ (w : View). eqb w.server v.server && (eqb w.attributes.bits v.attributes.bits && eqb w.path.bits v.path.bits)) vs ≡ among v vs
 any_among v [] = refl
 any_among v (w ∷ vs) =
     let turn : (eqb w.server v.server && (eqb w.attributes.bits v.attributes.bits && eqb w.path.bits v.path.bits)) ≡ same_view v w = grind (arith, nat_tests) in
     grind (arith, turn, any_among v vs)
+
+-- what a search of the table's views says
+pub searched : (v : View) (t : MemberTable) (views : List View) (r : Bool) → r ≡ list_any (λ (w : View). eqb w.server v.server && (eqb w.attributes.bits v.attributes.bits && eqb w.path.bits v.path.bits)) views → views ≡ listed t
+    → r ≡ among v (listed t)
+searched v t views r said whole = said ∙ any_among v views ∙ ap (among v) whole
 
 -- views held one by one
 pub views_alone : (vs : List View) → flat_map (λ (v : View). v ∷ []) vs ≡ vs

@@ -1,7 +1,7 @@
 -- A composed book's table after a rule comes or leaves.
-use Rattle.std.specs.Prelude.{◌≡◌, ℕ, zero, suc, ◌<◌, ◌≤◌, Bool, true, false, cond, not, ◌&&◌, leb, List, [], ◌∷◌, length, filter, ◌==◌, nat_le, refl}
+use Rattle.std.specs.Prelude.{◌≡◌, ℕ, zero, suc, ◌≤◌, Bool, true, false, cond, not, ◌&&◌, leb, List, [], ◌∷◌, length, filter, ◌==◌, nat_le, refl}
 use Rattle.std.proofs.Common.{ap, ◌∙◌, inl, inr, arith}
-use Rattle.std.proofs.lemmas.Bool.{and_from, and_parts, and_left, and_right, le-leb, lt-leb, leb-true, or_cases, or_left, or_right}
+use Rattle.std.proofs.lemmas.Bool.{and_from, and_parts, le-leb, leb-true, or_cases, or_left, or_right}
 use Rattle.chart.specs.declared.state.Chart.{Chart}
 use Rattle.chart.specs.Charts.{layout}
 use Rattle.chart.specs.Layout.{Layout}
@@ -31,22 +31,6 @@ granted_fewer q (r ∷ rules) v h = go (q r) h (granted_fewer q rules v)
       | inr later ↦ or_right (same_view v r.view) (among v (granted rules)) (rest later)
     ]
     go false k rest = or_right (same_view v r.view) (among v (granted rules)) (rest k)
-
--- one more rule, in other slots
-module _ (c : Chart) (rules after : List RuleRecord) (r : RuleRecord) (same : Same after (r ∷ rules)) where
-  pub more_fits : length rules < 64 → length (composed_members (layout c) after) ≤ 256 → composed_fits (layout c) (r ∷ rules) ≡ true
-  more_fits room few =
-      let e = members_same c after (r ∷ rules) same in
-      and_from (nat_le (length (r ∷ rules)) 64) (nat_le (length (composed_members (layout c) (r ∷ rules))) 256)
-      (le-leb (length (r ∷ rules)) 64 (omega arith)) (le-leb (length (composed_members (layout c) (r ∷ rules))) 256 (omega arith))
-
-  pub more_unfit : 256 < length (composed_members (layout c) after) → composed_fits (layout c) (r ∷ rules) ≡ false
-  more_unfit many =
-      let e = members_same c after (r ∷ rules) same in
-      and_right (nat_le (length (r ∷ rules)) 64) (nat_le (length (composed_members (layout c) (r ∷ rules))) 256) (lt-leb (length (composed_members (layout c) (r ∷ rules))) 256 (omega arith))
-
-pub full_unfit : (l : Layout) (rules : List RuleRecord) (r : RuleRecord) → 64 ≤ length rules → composed_fits l (r ∷ rules) ≡ false
-full_unfit l rules r full = and_left (nat_le (length (r ∷ rules)) 64) (nat_le (length (composed_members l (r ∷ rules))) 256) (lt-leb (length (r ∷ rules)) 64 (omega arith))
 
 -- a rule that leaves never makes the members too many
 pub fewer_few : (c : Chart) (rules : List RuleRecord) (n : ℕ) → length (composed_members (layout c) rules) ≤ 256 → length (composed_members (layout c) (withdrawal_list rules n)) ≤ 256
