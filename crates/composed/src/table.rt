@@ -24,7 +24,7 @@ pub(crate) struct MemberTable {
 }
 
 impl MemberTable {
-    ghost use Rattle.composed.specs.Table.{listed, Fills};
+    ghost use Rattle.composed.specs.Table.{listed, Fills, Gathers};
 
     // A table with no view.
     pub(crate) fn empty() -> MemberTable
@@ -111,7 +111,7 @@ impl MemberTable {
 
     // The members of the rules of a book, each once; none where there are more than 256.
     pub(crate) fn of(book: &ExactBook) -> Option<MemberTable>
-        ensures { MatchOption result (256 < length (members (layout book.now.chart) (granted (held book.now.slots)))) (λ t. Holds (layout book.now.chart) (granted (held book.now.slots)) t.places t.count) }
+        ensures { Gathers (layout book.now.chart) (granted (held book.now.slots)) result }
     {
         let mut table = MemberTable::empty();
         table.add_held(book.slots())?;
