@@ -14,13 +14,13 @@ pub returns-in_err-rule-clause-after : goal.returns-in_err-rule-clause-after
 returns-in_err-rule-clause-after c =
     refusal_after (layout c.args.self.now.chart) exact_fits (held c.args.self.now.slots) c.args.given c.in_err-rule.field-0.0 c.in_err-rule.ensures.answer
 
-pub returns-then-holds_number : goal.returns-then-holds_number
-returns-then-holds_number c =
+pub returns-then-holds_number-clause-after : goal.returns-then-holds_number-clause-after
+returns-then-holds_number-clause-after c =
     let l = layout c.args.self.now.chart in
     let rules = held c.args.self.now.slots in
     let r = c.in_ok-rule.rule.given in
-    let answer = entry_is l exact_fits rules c.args.given (Err InForce) r c.in_ok-rule.ensures.answer (place_taken exact_fits rules r (sym c.if-holds_number.ensures)) in
-    record { answer = answer; after = refused_after l exact_fits rules c.args.given InForce answer; chart = refl; reads = refl; fitting = refl }
+    refused_after l exact_fits rules c.args.given InForce
+    (entry_is l exact_fits rules c.args.given (Err InForce) r c.in_ok-rule.ensures.answer (place_taken exact_fits rules r (sym c.if-holds_number.ensures)))
 
 pub returns-in_err-i-clause-after : goal.returns-in_err-i-clause-after
 returns-in_err-i-clause-after c =
