@@ -37,10 +37,6 @@ module _ {X P : Type 0} (leq : P → P → Bool) (key : X → P) where
   unfolding cheapest
   cheapest_more f n = ap (cheapest leq key f) (add-one n)
 
-  pub cheapest_five : (f : ℕ → Option X) → cheapest leq key f 5 ≡ better leq key (better leq key (better leq key (better leq key (f 0) (f 1)) (f 2)) (f 3)) (f 4)
-  unfolding cheapest
-  cheapest_five f = refl
-
   pub cheapest_like : (f g : ℕ → Option X) (n : ℕ) → ((j : ℕ) → j < n → f j ≡ g j) → cheapest leq key f n ≡ cheapest leq key g n
   unfolding cheapest
   cheapest_like f g zero e = refl

@@ -13,7 +13,7 @@ use Rattle.assignments.specs.Cheapest.{better}
 use Rattle.assignments.specs.Table.{holding, weighed, offer, best_of_mode, best}
 use Rattle.assignments.specs.Stands.{Before}
 use Rattle.assignments.proofs.Modes.{mode_is, number_below, number_is}
-use Rattle.assignments.proofs.Cheapest.{First, not_both, cheapest_five, cheapest_like, cheapest_offered, cheapest_empty, cheapest_first, dearer_still}
+use Rattle.assignments.proofs.Cheapest.{First, not_both, cheapest_like, cheapest_offered, cheapest_empty, cheapest_first, dearer_still}
 
 -- what two operand places give when the option is open
 record Weighed {P : Type 0} (c : Pricing P) (b : Bool) (m : Mode) (u : ℕ) (own : P) (x y : Option (Place P)) (p : Place P) : Type 0 where
@@ -58,17 +58,6 @@ module _ {P : Type 0} (c : Pricing P) (may : ℕ → Profile → Bool) (n : ℕ)
   offer_is m u x y fit safe a b =
       let sent = releases j m (left_at m s u) (right_at m s u) in
       weigh c (fits m s u && allowed may sent) m u (own_price c sent) (L (left_at m s u)) (R (right_at m s u)) x y (and_from (fits m s u) (allowed may sent) fit safe) a b
-
-  -- the best option goes mode by mode
-  pub best_five : best c may n j L R s
-      ≡ better c.leq (λ p. p.price)
-      (better c.leq (λ p. p.price)
-      (better c.leq (λ p. p.price)
-      (better c.leq (λ p. p.price) (best_of_mode c may n j L R s Local) (best_of_mode c may n j L R s LeftMaster))
-      (best_of_mode c may n j L R s LeftSemi))
-      (best_of_mode c may n j L R s RightMaster))
-      (best_of_mode c may n j L R s RightSemi)
-  best_five = cheapest_five c.leq (λ p. p.price) (λ m. best_of_mode c may n j L R s (mode_at m))
 
   -- a place tells the option that gave it
   told : (m : Mode) (u : ℕ) (p : Place P) → offer c may n j L R s m u ≡ Some p → (m ≡ p.mode) × (u ≡ p.other)

@@ -17,6 +17,15 @@ pub enum Mode {
 }
 
 impl Mode {
+    // The modes in the order of their numbers.
+    pub const ALL: [Mode; 5] = [
+        Mode::Local,
+        Mode::LeftMaster,
+        Mode::LeftSemi,
+        Mode::RightMaster,
+        Mode::RightSemi,
+    ];
+
     // The number under which this mode is reported.
     pub fn number(self) -> u16
         ensures { result ≡ mode_number self }

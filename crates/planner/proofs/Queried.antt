@@ -13,10 +13,8 @@ use Rattle.queries.specs.Sound.{Sound}
 use Rattle.assignments.specs.declared.parts.Step.{Step}
 use Rattle.assignments.specs.declared.parts.Place.{Place}
 use Rattle.assignments.specs.declared.parts.Release.{Release}
-use Rattle.search.specs.declared.run.Outcome.{Outcome}
-use Rattle.search.specs.declared.run.Outcome.TheVariants.{Seated, Blocked}
 use Rattle.search.specs.Rows.{Filled}
-use Rattle.search.specs.Outcomes.{outcome_of, search_answer}
+use Rattle.search.specs.Outcomes.{Outcome, outcome_of, search_answer}
 use Rattle.planner.specs.declared.answer.Planned.{Planned}
 use Rattle.planner.specs.declared.answer.QueryRefusal.{QueryRefusal}
 use Rattle.planner.specs.declared.answer.QueryRefusal.TheVariants as refusal
@@ -90,8 +88,8 @@ module _ {P : Type 0} (c : Pricing P) (may : ℕ → Profile → Bool) (l : Layo
 
   module _ (lawful : Lawful c) (charted : chart.Sound l) (sound : Sound l nodes) (new : List (Option (Place P))) (filled : Filled c may l nodes (length nodes) work new) (long : length nodes ≤ length plan) where
     judged_as : (o : Outcome P) → outcome_of c may l nodes ≡ o → Judged c may l nodes new (plan_by c may l nodes o plan) (releases_by c may l nodes o releases) (answer_by c may l nodes o)
-    judged_as (Seated q) h = planned_by c lawful may l charted nodes sound q (seated_by c lawful may l charted nodes sound q h) work new filled plan long releases
-    judged_as (Blocked k) h =
+    judged_as (Ok q) h = planned_by c lawful may l charted nodes sound q (seated_by c lawful may l charted nodes sound q h) work new filled plan long releases
+    judged_as (Err k) h =
         let b = blocked_by c lawful may l charted nodes sound k h in
         subst (λ (j : ℕ). BlockedAt c may l nodes new j) b.1 (blocked_at c lawful may l charted nodes sound b.0 work new filled)
 

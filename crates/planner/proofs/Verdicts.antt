@@ -24,10 +24,11 @@ use Rattle.assignments.proofs.Stands.{executor_below, recorded_reaches, stands}
 use Rattle.assignments.proofs.Chosen.{chosen_none, chosen_some}
 use Rattle.assignments.proofs.Nodes.{tree_below, tree_distinct}
 use Rattle.search.specs.declared.root.Seat.{Seat}
-use Rattle.search.specs.declared.run.Outcome.TheVariants.{Seated, Blocked}
+use Rattle.search.specs.declared.run.Blocked.{Blocked}
 use Rattle.search.specs.Rows.{Filled}
 use Rattle.search.specs.Root.{seat, seat_of, empty_row, first_of}
 use Rattle.search.specs.Outcomes.{seated_or, outcome_of}
+use Rattle.search.proofs.Outcomes.{unseated}
 use Rattle.search.proofs.Empty.{all_empty, empty_at, some_at, FirstPasses, first_passes}
 use Rattle.planner.specs.Plans.{at_step, plan_after, entailed, releases_after}
 use Rattle.planner.specs.Queries.{root, assigned, released}
@@ -35,17 +36,13 @@ use Rattle.planner.specs.Judged.{NoneSafe, PlacesStand, BlockedAt, PlannedBy}
 use Rattle.planner.proofs.Buffers.{at_plan, entailed_like}
 use Rattle.planner.proofs.Listed.{listed_allowed}
 
-seated_is : {P : Type 0} (o : Option (Seat P)) (k : ℕ) (q : Seat P) → seated_or o k ≡ Seated q → o ≡ Some q
+seated_is : {P : Type 0} (o : Option (Seat P)) (k : ℕ) (q : Seat P) → seated_or o k ≡ Ok q → o ≡ Some q
 seated_is None k q h = let z : ◌≡◌ {A = ℕ} 0 1 = cc in absurd (omega arith)
 seated_is (Some x) k q h = cc
 
-blocked_is : {P : Type 0} (o : Option (Seat P)) (k j : ℕ) → seated_or o k ≡ Blocked j → (o ≡ None) × (k ≡ j)
-blocked_is None k j h = (refl, cc)
-blocked_is (Some x) k j h = let z : ◌≡◌ {A = ℕ} 0 1 = cc in absurd (omega arith)
-
-unseated : {P : Type 0} (s : ℕ) (o : Option (Place P)) → seat_of s o ≡ None → o ≡ None
-unseated s None h = refl
-unseated s (Some p) h = let z : ◌≡◌ {A = ℕ} 0 1 = cc in absurd (omega arith)
+blocked_is : {P : Type 0} (o : Option (Seat P)) (k : ℕ) (b : Blocked) → seated_or o k ≡ Err b → (o ≡ None) × (k ≡ b.node)
+blocked_is None k b h = let e : record { node = k } ≡ b = cc in (refl, ap (λ (v : Blocked). v.node) e)
+blocked_is (Some x) k b h = let z : ◌≡◌ {A = ℕ} 0 1 = cc in absurd (omega arith)
 
 none_stands : {P : Type 0} (l : Layout) (c : Pricing P) (may : ℕ → Profile → Bool) (nodes : List Node) (k s : ℕ) (o : Option (Place P)) → o ≡ None → Stands l c may (tree_of nodes k) s o
     → (e : Steps) → Way l may (tree_of nodes k) s e → ⊥
@@ -56,7 +53,7 @@ seat_held s None q h = let z : ◌≡◌ {A = ℕ} 0 1 = cc in absurd (omega ari
 seat_held s (Some p) q h = let e : seat s p.price ≡ q = cc in (p, refl, ap (λ (v : Seat _). v.server) e)
 
 -- a seat that was found is a place of the root that is not empty
-pub seat_place : {P : Type 0} (c : Pricing P) (may : ℕ → Profile → Bool) (l : Layout) (nodes : List Node) (q : Seat P) → outcome_of c may l nodes ≡ Seated q
+pub seat_place : {P : Type 0} (c : Pricing P) (may : ℕ → Profile → Bool) (l : Layout) (nodes : List Node) (q : Seat P) → outcome_of c may l nodes ≡ Ok q
     → (p : Place P) × (place c may l.servers l (root nodes) q.server ≡ Some p) × (q.server < l.servers)
 unfolding outcome_of
 seat_place {P = P} c may l nodes q h =
@@ -81,13 +78,13 @@ module _ {P : Type 0} (c : Pricing P) (lawful : Lawful c) (may : ℕ → Profile
   last_inside : length nodes - 1 < length nodes
   last_inside = let s = sound.some in omega arith
 
-  pub seated_by : (q : Seat P) → outcome_of c may l nodes ≡ Seated q → pick ≡ Some q
+  pub seated_by : (q : Seat P) → outcome_of c may l nodes ≡ Ok q → pick ≡ Some q
   unfolding outcome_of
   seated_by q h = seated_is pick lowest q h
 
-  pub blocked_by : (k : ℕ) → outcome_of c may l nodes ≡ Blocked k → (pick ≡ None) × (lowest ≡ k)
+  pub blocked_by : (b : Blocked) → outcome_of c may l nodes ≡ Err b → (pick ≡ None) × (lowest ≡ b.node)
   unfolding outcome_of
-  blocked_by k h = blocked_is pick lowest k h
+  blocked_by b h = blocked_is pick lowest b h
 
   pub seated_at : (q : Seat P) → pick ≡ Some q → CheapestAt l c may (root nodes) q.server q.price
   seated_at q h =

@@ -16,9 +16,7 @@ use Rattle.assignments.specs.declared.parts.Release.{Release}
 use Rattle.assignments.specs.Assignments.{Steps}
 use Rattle.assignments.specs.Table.{place, recorded}
 use Rattle.search.specs.declared.root.Seat.{Seat}
-use Rattle.search.specs.declared.run.Outcome.{Outcome}
-use Rattle.search.specs.declared.run.Outcome.TheVariants.{Seated, Blocked}
-use Rattle.search.specs.Outcomes.{outcome_of}
+use Rattle.search.specs.Outcomes.{Outcome, outcome_of}
 use Rattle.planner.specs.declared.answer.Planned.{Planned}
 use Rattle.planner.specs.declared.answer.QueryRefusal.{QueryRefusal}
 use Rattle.planner.specs.declared.answer.QueryRefusal.TheVariants as refusal
@@ -58,16 +56,16 @@ module _ {P : Type 0} (c : Pricing P) (may : ℕ → Profile → Bool) (l : Layo
 
   -- by what the search found: a plan with its executor, price and release count, or 40 with the lowest blocked node
   abbrev pub answer_by : Outcome P → Result (Planned P) QueryRefusal
-  answer_by (Seated q) = Ok (record { executor = q.server; price = q.price; releases = length (released q.server) })
-  answer_by (Blocked k) = Err (refusal.Blocked k)
+  answer_by (Ok q) = Ok (record { executor = q.server; price = q.price; releases = length (released q.server) })
+  answer_by (Err b) = Err (refusal.Blocked b.node)
 
   abbrev pub plan_by : Outcome P → List Step → List Step
-  plan_by (Seated q) plan = plan_after (assigned q.server) (length nodes) plan
-  plan_by (Blocked k) plan = plan
+  plan_by (Ok q) plan = plan_after (assigned q.server) (length nodes) plan
+  plan_by (Err b) plan = plan
 
   abbrev pub releases_by : Outcome P → List Release → List Release
-  releases_by (Seated q) releases = releases_after (released q.server) releases
-  releases_by (Blocked k) releases = releases
+  releases_by (Ok q) releases = releases_after (released q.server) releases
+  releases_by (Err b) releases = releases
 
   -- the answer where the check accepts; else its refusal
   abbrev pub answer_from : Result (Unit {0}) TreeRefusal → Outcome P → Result (Planned P) QueryRefusal

@@ -1,6 +1,9 @@
 -- Rows that are empty, and the first of them.
-use Rattle.std.proofs.Common.{◌≡◌, ℕ, zero, suc, ◌+◌, ◌-◌, ◌<◌, ◌≤◌, Bool, true, false, cond, not, ◌&&◌, ◌⊎◌, is_some, Some, None, Option, sym, refl, ap, ◌∙◌, ap₂, inl, inr, ⊎_elim, add-one, arith}
-use Rattle.std.proofs.lemmas.Bool.{cases_lt, cases_Bool, and_parts, and_from, and_left, and_right, not_from_true, not_from_false, not-true, cond-true, cond-false, both_ways}
+use Rattle.std.proofs.Common.{◌≡◌, ℕ, zero, suc, ◌+◌, ◌-◌, ◌<◌, ◌≤◌, Bool, true, false, cond, not, ◌&&◌, ◌⊎◌, length, is_some, MatchOption, subst, zero-add, Some, None, Option, sym, refl, ap, ◌∙◌, ap₂, inl, inr, ⊎_elim, add-one, arith}
+use Rattle.std.specs.Bool.{MatchBool}
+use Rattle.std.specs.List.{AllWithin, HoldsAt, range_with_len}
+use Rattle.std.proofs.lemmas.List.FromFn.{get_or-range_with_len, length-range_with_len}
+use Rattle.std.proofs.lemmas.Bool.{cases_order, cases_lt, cases_Bool, and_parts, and_from, and_left, and_right, not_from_true, not_from_false, not-true, cond-true, cond-false, both_ways}
 use Rattle.assignments.specs.declared.parts.Place.{Place}
 use Rattle.search.specs.Root.{empty_row, first_of}
 
@@ -9,14 +12,6 @@ no_some None h = refl
 no_some (Some x) h = absurd (both_ways true h refl)
 
 module _ {P : Type 0} (f : ℕ → Option (Place P)) where
-  pub empty_none : empty_row f 0 ≡ true
-  unfolding empty_row
-  empty_none = refl
-
-  pub empty_more : (i : ℕ) → empty_row f i ≡ true → is_some (f i) ≡ false → empty_row f (i + 1) ≡ true
-  unfolding empty_row
-  empty_more i h e = ap (empty_row f) (add-one i) ∙ and_from (empty_row f i) (not (is_some (f i))) h (not_from_false (is_some (f i)) e)
-
   pub empty_stop : (n i : ℕ) → i < n → is_some (f i) ≡ true → empty_row f n ≡ false
   unfolding empty_row
   empty_stop zero i h e = absurd (omega arith)
@@ -52,30 +47,24 @@ module _ {P : Type 0} (f : ℕ → Option (Place P)) where
       go below (inl e) None k = absurd (both_ways (empty_row f (suc n)) h (and_from (empty_row f n) (not (is_some (f n))) e (not_from_false (is_some (f n)) (ap is_some k))))
       go below (inl e) (Some p) k = (n, omega arith, (p, k))
 
+-- whether a row is empty, by a walk over its servers
+pub empty_by : {P : Type 0} (f : ℕ → Option (Place P)) (n : ℕ) (r : Bool)
+    → MatchBool r (AllWithin (λ s. is_some (f s) ≡ false) (range_with_len 0 n) 0 (length (range_with_len 0 n))) ((k : ℕ) × (k < length (range_with_len 0 n)) × HoldsAt (λ s. is_some (f s) ≡ true) (range_with_len 0 n) k)
+    → r ≡ empty_row f n
+empty_by f n true h =
+    let z = length-range_with_len 0 n in
+    sym (all_empty f n (λ s b. no_some (f s) (subst (λ (k : ℕ). is_some (f k) ≡ false) (get_or-range_with_len 0 n s 0 b ∙ zero-add s) (h s 0 (omega arith) (omega arith)))))
+empty_by f n false h =
+    let z = length-range_with_len 0 n in
+    let below : h.0 < n = omega (arith, h.1) in
+    sym (empty_stop f n h.0 below (subst (λ (k : ℕ). is_some (f k) ≡ true) (get_or-range_with_len 0 n h.0 0 below ∙ zero-add h.0) (h.2 0)))
+
 pub empty_like : {P : Type 0} (f g : ℕ → Option (Place P)) (n : ℕ) → ((s : ℕ) → s < n → f s ≡ g s) → empty_row f n ≡ empty_row g n
 unfolding empty_row
 empty_like f g zero h = refl
 empty_like f g (suc n) h = ap₂ (λ (a b : Bool). a && b) (empty_like f g n (λ s b. h s (omega arith))) (ap (λ o. not (is_some o)) (h n (omega arith)))
 
 module _ (p : ℕ → Bool) where
-  first_step : (n k : ℕ) → k < n → first_of p k (n - k) ≡ cond (p k) k (first_of p (k + 1) (n - (k + 1)))
-  unfolding first_of
-  first_step n k h = let z : n - k ≡ suc (n - (k + 1)) = omega arith in ap (first_of p k) z
-
-  pub first_none : (n : ℕ) → first_of p 0 (n - 0) ≡ first_of p 0 n
-  first_none n = let z : n - 0 ≡ n = omega arith in ap (first_of p 0) z
-
-  module _ (n k : ℕ) (so_far : first_of p k (n - k) ≡ first_of p 0 n) where
-    pub first_here : k < n → p k ≡ true → k ≡ first_of p 0 n
-    first_here h e = sym (first_step n k h ∙ cond-true (p k) k (first_of p (k + 1) (n - (k + 1))) e) ∙ so_far
-
-    pub first_on : k < n → p k ≡ false → first_of p (k + 1) (n - (k + 1)) ≡ first_of p 0 n
-    first_on h e = sym (first_step n k h ∙ cond-false (p k) k (first_of p (k + 1) (n - (k + 1))) e) ∙ so_far
-
-    pub first_past : k ≡ n → n ≡ first_of p 0 n
-    unfolding first_of
-    first_past e = let z : n - k ≡ 0 = omega arith in sym e ∙ sym (ap (first_of p k) z) ∙ so_far
-
   -- where one of the numbers passes, the first of them does, and none before it
   pub record FirstPasses (k n r : ℕ) : Type 0 where
     pub below : r < k + n
@@ -97,6 +86,17 @@ module _ (p : ℕ → Bool) where
         where
           cases_order' : (a b : ℕ) → b ≤ a → (a ≡ b) ⊎ (b + 1 ≤ a)
           cases_order' a b l = ⊎_elim (λ q. inr (omega arith)) (λ q. inl (omega arith)) (cases_lt b a)
+
+-- what a walk over the numbers finds
+pub first_by : (p : ℕ → Bool) (n : ℕ) (r : Option ℕ)
+    → MatchOption r ((k : ℕ) → 0 ≤ k → k < n → p k ≡ false) (λ i. (0 ≤ i) × (i < n) × (p i ≡ true) × ((k : ℕ) → 0 ≤ k → k < i → p k ≡ false))
+    → MatchOption r ((k : ℕ) → k < n → p k ≡ false) (λ i. i ≡ first_of p 0 n)
+first_by p n None h = λ k b. h k (omega arith) b
+first_by p n (Some i) h =
+    let f = first_passes p n 0 i (omega arith) (omega (arith, h.1)) h.2 in
+    ⊎_elim (λ e. e)
+    (⊎_elim (λ lt. absurd (both_ways (p i) (f.others i (omega arith) lt) h.2)) (λ gt. absurd (both_ways (p (first_of p 0 n)) (h.3 (first_of p 0 n) (omega arith) gt) f.passes)))
+    (cases_order i (first_of p 0 n))
 
 pub first_like : (p q : ℕ → Bool) (n k : ℕ) → ((j : ℕ) → k ≤ j → j < k + n → p j ≡ q j) → first_of p k n ≡ first_of q k n
 unfolding first_of

@@ -13,16 +13,19 @@ use Rattle.assignments.specs.declared.parts.Place.{Place}
 use Rattle.assignments.specs.Cheapest.{cheapest}
 use Rattle.assignments.specs.Table.{place}
 use Rattle.search.specs.declared.root.Seat.{Seat}
-use Rattle.search.specs.declared.run.Outcome.{Outcome}
-use Rattle.search.specs.declared.run.Outcome.TheVariants.{Seated, Blocked}
+use Rattle.search.specs.declared.run.Blocked.{Blocked}
 use Rattle.search.specs.declared.run.Searched.{Searched}
 use Rattle.search.specs.Rows.{Filled}
 use Rattle.search.specs.Root.{seat_of, empty_row, first_of}
 
+-- what is found for the root: an executor, or the lowest node that blocks
+abbrev pub Outcome : Type 0 → Type 0
+Outcome P = Result (Seat P) Blocked
+
 -- the cheapest executor, or else the lowest of the nodes that can be executed nowhere
 abbrev pub seated_or : {P : Type 0} → Option (Seat P) → ℕ → Outcome P
-seated_or (Some q) k = Seated q
-seated_or None k = Blocked k
+seated_or (Some q) k = Ok q
+seated_or None k = Err (record { node = k })
 
 -- by the rows T of `count` nodes, the root last
 abbrev pub read_from : {P : Type 0} → Pricing P → ℕ → ℕ → (ℕ → ℕ → Option (Place P)) → Outcome P

@@ -1,6 +1,7 @@
 // The search: fills the work table with the cheapest safe ways to have each node of a query at each server.
 #![tactic(auto)]
 
+mod cheapest;
 mod fill;
 mod options;
 mod root;
@@ -10,5 +11,5 @@ mod sends;
 mod table;
 
 pub use root::Seat;
-pub use run::{Outcome, Searched, search_tree};
+pub use run::{Blocked, Searched, search_tree};
 pub use table::Table;

@@ -1,8 +1,9 @@
-ghost use Rattle.std.specs.Prelude.{◌≡◌, ℕ, ◌-◌, ◌<◌, ◌≤◌, Some};
-ghost use Rattle.assignments.specs.Cheapest.{better as cheaper, cheapest};
+ghost use Rattle.std.specs.Prelude.{◌≡◌, ℕ, ◌<◌, false, MatchOption};
+ghost use Rattle.assignments.specs.Cheapest.{cheapest as first_cheapest};
 ghost use Rattle.search.specs.Rows.{place_at};
 ghost use Rattle.search.specs.Root.{seat_of, empty_row, first_of};
 
+use crate::cheapest::cheapest;
 use crate::table::Table;
 use tariff::Tariff;
 
@@ -13,22 +14,12 @@ pub struct Seat<P> {
     pub price: P,
 }
 
-// The first, unless the second is strictly cheaper.
-fn better_seat<T: Tariff>(
-    tariff: &T,
-    first: Option<Seat<T::Price>>,
-    second: Seat<T::Price>,
-) -> Option<Seat<T::Price>>
-    ensures { result ≡ cheaper (T.pricing tariff.now).leq (λ q. q.price) first (Some second) }
+// The place of a node at a server, as a seat.
+fn seat_at<P: Copy>(table: &Table<P>, node: u16, server: u16) -> Option<Seat<P>>
+    ensures { result ≡ seat_of server (place_at table.now.places.now table.now.servers node server) }
 {
-    let Some(x) = first else {
-        return Some(second);
-    };
-    if tariff.at_most(x.price, second.price) {
-        Some(x)
-    } else {
-        Some(second)
-    }
+    let price = table.at(node, server)?.price;
+    Some(Seat { server, price })
 }
 
 // The first of the cheapest servers of a node's row.
@@ -37,42 +28,21 @@ pub(crate) fn choose<T: Tariff>(
     table: &Table<T::Price>,
     node: u16,
 ) -> Option<Seat<T::Price>>
-    ensures { result ≡ cheapest (T.pricing tariff.now).leq (λ q. q.price) (λ s. seat_of s (place_at table.now.places.now table.now.servers node s)) table.now.servers }
+    ensures { result ≡ first_cheapest (T.pricing tariff.now).leq (λ q. q.price) (λ s. seat_of s (place_at table.now.places.now table.now.servers node s)) table.now.servers }
 {
-    let mut best: Option<Seat<T::Price>> = None;
-    for server in 0..table.servers {
-        let Some(place) = table.at(node, server) else {
-            continue;
-        };
-        let seat = Seat {
-            server,
-            price: place.price,
-        };
-        best = better_seat(tariff, best, seat);
-    }
-    best
+    cheapest(tariff, table.servers, |server| seat_at(table, node, server))
 }
 
 // Whether every place of a node's row is empty.
 fn is_empty_row<P: Copy>(table: &Table<P>, node: u16) -> bool
     ensures { result ≡ empty_row (place_at table.now.places.now table.now.servers node) table.now.servers }
 {
-    for server in 0..table.servers {
-        if table.at(node, server).is_some() {
-            return false;
-        }
-    }
-    true
+    (0..table.servers).all(|server| table.at(node, server).is_none())
 }
 
-// The lowest of the first nodes whose row is empty; their number where none is.
-pub(crate) fn lowest_empty<P: Copy>(table: &Table<P>, nodes: u16) -> u16
-    ensures { result ≡ first_of (λ k. empty_row (place_at table.now.places.now table.now.servers k) table.now.servers) 0 nodes }
+// The lowest of the first nodes whose row is empty.
+pub(crate) fn lowest_empty<P: Copy>(table: &Table<P>, nodes: u16) -> Option<u16>
+    ensures { MatchOption result ((k : ℕ) → k < nodes → empty_row (place_at table.now.places.now table.now.servers k) table.now.servers ≡ false) (λ i. i ≡ first_of (λ k. empty_row (place_at table.now.places.now table.now.servers k) table.now.servers) 0 nodes) }
 {
-    for node in 0..nodes {
-        if is_empty_row(table, node) {
-            return node;
-        }
-    }
-    nodes
+    (0..nodes).find(|node| is_empty_row(table, *node))
 }

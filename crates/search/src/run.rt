@@ -15,28 +15,34 @@ use profile::Profile;
 use queries::{Node, TreeRefusal, check_tree, has_fit_count};
 use tariff::Tariff;
 
-// What the search found for the root: the cheapest executor, or the lowest node that can be executed nowhere.
+// No safe assignment: the lowest node whose own subtree has none.
 #[derive(Clone, Copy)]
-pub enum Outcome<P> {
-    Seated(Seat<P>),
-    Blocked(u16),
+pub struct Blocked {
+    pub node: u16,
 }
 
-// The profile of each node, in the first places, and what was found for the root.
+// The profile of each node, in the first places, and what was found for the root: the cheapest executor, or what blocks.
 #[derive(Clone, Copy)]
 pub struct Searched<P> {
     pub profiles: [Profile; 63],
-    pub outcome: Outcome<P>,
+    pub outcome: Result<Seat<P>, Blocked>,
 }
 
 // What a filled table says of the root.
-fn read_outcome<T: Tariff>(tariff: &T, table: &Table<T::Price>, count: u16) -> Outcome<T::Price>
+fn read_outcome<T: Tariff>(
+    tariff: &T,
+    table: &Table<T::Price>,
+    count: u16,
+) -> Result<Seat<T::Price>, Blocked>
     requires { 0 < count }
     ensures { result ≡ read_from (T.pricing tariff.now) table.now.servers count (place_at table.now.places.now table.now.servers) }
 {
     match choose(tariff, table, count - 1) {
-        Some(seat) => Outcome::Seated(seat),
-        None => Outcome::Blocked(lowest_empty(table, count)),
+        Some(seat) => Ok(seat),
+        // The root's row is empty, so there is one.
+        None => Err(Blocked {
+            node: lowest_empty(table, count).unwrap(),
+        }),
     }
 }
 
@@ -47,7 +53,7 @@ fn run_search<P: Policy, T: Tariff>(
     nodes: &[Node],
     profiles: &[Profile],
     work: &mut [Option<Place<T::Price>>],
-) -> Outcome<T::Price>
+) -> Result<Seat<T::Price>, Blocked>
     requires sound { Sound (layout (P.Policy.charted policy.now)) nodes.now }
     requires profiles { (k : ℕ) → k < length nodes.now → slice_index_or profiles.now k blank ≡ node_profile (layout (P.Policy.charted policy.now)) nodes.now k }
     requires sized { length nodes.now ≤ length profiles.now }

@@ -1,6 +1,6 @@
 use Rattle.std.proofs.Common.{Ok, sym, ap, ◌∙◌, subst}
 use Rattle.chart.specs.Charts.{layout}
-use Rattle.search.specs.declared.run.Outcome.{Outcome}
+use Rattle.search.specs.Outcomes.{Outcome}
 use Rattle.planner.specs.Queries.{AnsweredBy}
 use Rattle.planner.proofs.Verdicts.{seat_place}
 use Rattle.planner.proofs.query.answer_found.Goals as goal

@@ -6,8 +6,7 @@ use Rattle.queries.specs.declared.refusal.TreeRefusal.TheVariants.{Room}
 use Rattle.queries.specs.Questions.{count_fits, node_profile}
 use Rattle.queries.specs.Sound.{Sound}
 use Rattle.search.specs.Rows.{Filled}
-use Rattle.search.specs.Outcomes.{outcome_of}
-use Rattle.search.specs.declared.run.Outcome.{Outcome}
+use Rattle.search.specs.Outcomes.{Outcome, outcome_of}
 use Rattle.planner.specs.Queries.{AnsweredBy, answer_by, plan_by, releases_by}
 use Rattle.planner.proofs.Buffers.{table_is}
 use Rattle.planner.proofs.Queried.{no_room, as_searched, refused_by, accepted_by, judged_by}

@@ -1,20 +1,15 @@
-use Rattle.std.proofs.Common.{ℕ, is_some, Option, sym, ap, ◌∙◌, arith}
+use Rattle.std.proofs.Common.{◌≡◌, ℕ, true, false, is_some, Option, refl, arith, rules, tests}
+use Rattle.std.proofs.lemmas.Iterator.{cases_from_all, YieldsList-from_range}
 use Rattle.assignments.specs.declared.parts.Place.{Place}
 use Rattle.search.specs.Rows.{place_at}
-use Rattle.search.proofs.Empty.{empty_none, empty_more, empty_stop}
+use Rattle.search.proofs.Empty.{empty_by}
 use Rattle.search.proofs.root.is_empty_row.Goals as goal
 
-pub loop-server-init : goal.loop-server-init
-loop-server-init g c = empty_none _
-
-pub returns-then-is_some : goal.returns-then-is_some
-returns-then-is_some g c =
+pub returns : goal.returns
+returns g c =
     let n = c.args.table.now.servers in
     let f : ℕ → Option (Place g.row.P.Denot) = place_at c.args.table.now.places.now n c.args.node in
-    sym (empty_stop f n c.loop-server.server (omega arith) (sym (ap is_some c.at.ensures) ∙ sym c.if-is_some.ensures))
-
-pub loop-server-preserved : goal.loop-server-preserved
-loop-server-preserved g c =
-    let n = c.args.table.now.servers in
-    let f : ℕ → Option (Place g.row.P.Denot) = place_at c.args.table.now.places.now n c.args.node in
-    empty_more f c.loop-server.server c.loop-server.invariant (sym (ap is_some c.at.ensures) ∙ sym c.if-is_some.ensures)
+    empty_by f n c.all.result
+    (cases_from_all _ _ _ (λ s. is_some (f s) ≡ false) (λ s. is_some (f s) ≡ true) c.all.ensures.ran (YieldsList-from_range 0 n n refl (omega arith))
+        (λ s q k. (search rules, grind (arith, tests)))
+        (λ s q k. grind (arith, tests)))
