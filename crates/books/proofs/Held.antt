@@ -1,8 +1,9 @@
 -- Slots that are filled and emptied.
-use Rattle.std.proofs.Common.{◌≡◌, ℕ, zero, suc, ◌+◌, ◌<◌, ◌≤◌, Bool, true, false, cond, not, ◌||◌, eqb, List, [], ◌∷◌, length, get_or, drop, set, is_some, Some, None, Ok, Err, filter, Option, sym, refl, ap, ◌∙◌, zero-add, arith, MatchOption}
-use Rattle.std.specs.Option.{option_map}
-use Rattle.std.proofs.lemmas.List.{at_drop_more, at_drop_all, get_or_read}
-use Rattle.std.proofs.lemmas.Bool.{false≢true, true≢false, eqb-true, and_parts, not-true, not_from_true, not_from_false, eq-eqb, ne_eqb, cond-true, cond-false, both_ways, or_left, or_right, or_parts, or_from, and_from}
+use Rattle.std.proofs.Common.{◌≡◌, ℕ, zero, suc, ◌<◌, ◌≤◌, Bool, true, false, cond, not, ◌||◌, eqb, List, [], ◌∷◌, length, get_or, set, is_some, Some, None, Ok, Err, filter, Option, sym, refl, ap, ◌∙◌, arith, MatchOption, inl, inr, ltb}
+use Rattle.std.specs.List.{position, position_or_len}
+use Rattle.std.proofs.lemmas.List.Sums.{fails_before_first}
+use Rattle.std.proofs.lemmas.List.Quantifiers.{position-Some}
+use Rattle.std.proofs.lemmas.Bool.{false≢true, true≢false, eqb-true, and_parts, not-true, not_from_true, not_from_false, eq-eqb, ne_eqb, cond-true, cond-false, both_ways, or_left, or_right, or_parts, or_from, and_from, cases_lt, lt-ltb}
 use Rattle.chart.specs.Layout.{all_of, any_of}
 use Rattle.rules.specs.declared.view.RuleRecord.{RuleRecord}
 use Rattle.rules.specs.declared.rule.Rule.{Rule}
@@ -12,7 +13,7 @@ use Rattle.policy.specs.Viewed.{slot_views}
 use Rattle.policy.specs.Reading.{granted}
 use Rattle.policy.specs.Same.{Same, keep, swap, chain}
 use Rattle.policy.specs.Books.{in_force, apart, place_answer, withdrawal_list}
-use Rattle.books.specs.Slots.{held, place_of, Holds, Free}
+use Rattle.books.specs.Slots.{held, numbered, is_free, Holds, Free}
 use Rattle.policy.proofs.Orders.{same_refl}
 
 clash : {r : Rule} → ◌≡◌ {A = Option Rule} None (Some r) → ⊥
@@ -85,73 +86,50 @@ held_emptied (Some q ∷ slots) (suc i) r at distinct =
     ap (λ rest. q.given ∷ rest) (held_emptied slots i r at p.1)
     ∙ sym (cond-true (not (eqb q.given.number r.given.number)) (q.given ∷ withdrawal_list (held slots) r.given.number) (withdrawal_list (held slots) r.given.number) (not_from_false (eqb q.given.number r.given.number) other))
 
+-- the rule of a number leaves, and only that one
+pub number_emptied : (slots : List (Option Rule)) (i n : ℕ) → Holds slots i n → apart (held slots) ≡ true → held (set slots i None) ≡ withdrawal_list (held slots) n
+number_emptied slots i n h distinct = held_emptied slots i h.rule h.there distinct ∙ ap (withdrawal_list (held slots)) h.named
+
 or_alone : (b : Bool) → (b || false) ≡ true → b ≡ true
 or_alone true k = refl
 or_alone false k = k
 
-shifted : (i : ℕ) (o : Option ℕ) → option_map (λ (k : ℕ). k + i) (option_map (λ (k : ℕ). k + 1) o) ≡ option_map (λ (k : ℕ). k + (i + 1)) o
-shifted i None = refl
-shifted i (Some k) = ap Some (omega arith)
+-- where a search for the first element that passes finds none, none passes
+none_passes : {X : Type 0} (p : X → Bool) (xs : List X) → None ≡ position p xs → (k : ℕ) (d : X) → k < length xs → p (get_or xs k d) ≡ false
+none_passes p xs h k d below = elim (cases_lt (position_or_len p xs) (length xs)) [
+  | inl found ↦ absurd (let e = sym (cond-true (ltb (position_or_len p xs) (length xs)) (Some (position_or_len p xs)) None (lt-ltb (position_or_len p xs) (length xs) found)) ∙ sym h in let z : ◌≡◌ {A = ℕ} 0 1 = cc in omega arith)
+  | inr past ↦ fails_before_first p xs k d (omega arith)
+]
 
--- a turn of a search for the first place of an element that passes, where x was read at i
-module _ {X : Type 0} (p : X → Bool) (xs : List X) (i : ℕ) where
-  place_step : (x : X) → i < length xs → x ≡ get_or xs i x → place_of p (drop i xs) ≡ cond (p x) (Some 0) (option_map (λ (k : ℕ). k + 1) (place_of p (drop (i + 1) xs)))
-  place_step x below read =
-      at_drop_more (place_of p) xs i x below ∙ ap (λ y. cond (p y) (Some 0) (option_map (λ (k : ℕ). k + 1) (place_of p (drop (i + 1) xs)))) (sym read)
+not_in_force : (slots : List (Option Rule)) (n : ℕ) → ((k : ℕ) → k < length slots → numbered n (get_or slots k None) ≡ false) → in_force n (held slots) ≡ false
+not_in_force [] n h = refl
+not_in_force (None ∷ slots) n h = not_in_force slots n (λ k below. h (suc k) (omega arith))
+not_in_force (Some r ∷ slots) n h =
+    or_from (eqb r.given.number n) (in_force n (held slots)) (or_parts (eqb r.given.number n) false (h 0 (omega arith))).0 (not_in_force slots n (λ k below. h (suc k) (omega arith)))
 
-  pub place_found : (x : X) → i < length xs → x ≡ get_or xs i x → p x ≡ true → option_map (λ (k : ℕ). k + i) (place_of p (drop i xs)) ≡ Some i
-  place_found x below read h =
-      ap (option_map (λ (k : ℕ). k + i)) (place_step x below read ∙ cond-true (p x) (Some 0) (option_map (λ (k : ℕ). k + 1) (place_of p (drop (i + 1) xs))) h) ∙ ap Some (zero-add i)
+no_slot_free : (slots : List (Option Rule)) → ((k : ℕ) → k < length slots → is_free (get_or slots k None) ≡ false) → length (held slots) ≡ length slots
+no_slot_free [] h = refl
+no_slot_free (None ∷ slots) h = absurd (true≢false (h 0 (omega arith)))
+no_slot_free (Some r ∷ slots) h = ap suc (no_slot_free slots (λ k below. h (suc k) (omega arith)))
 
-  pub place_on : (x : X) → i < length xs → x ≡ get_or xs i x → p x ≡ false → option_map (λ (k : ℕ). k + (i + 1)) (place_of p (drop (i + 1) xs)) ≡ option_map (λ (k : ℕ). k + i) (place_of p (drop i xs))
-  place_on x below read h =
-      sym (ap (option_map (λ (k : ℕ). k + i)) (place_step x below read ∙ cond-false (p x) (Some 0) (option_map (λ (k : ℕ). k + 1) (place_of p (drop (i + 1) xs))) h) ∙ shifted i (place_of p (drop (i + 1) xs)))
-
-  pub place_none : length xs ≤ i → option_map (λ (k : ℕ). k + i) (place_of p (drop i xs)) ≡ None
-  place_none past = ap (option_map (λ (k : ℕ). k + i)) (at_drop_all (place_of p) xs i past)
-
-pub place_start : (o : Option ℕ) → option_map (λ (k : ℕ). k + 0) o ≡ o
-place_start None = refl
-place_start (Some k) = ap Some (omega arith)
-
--- a turn of a loop over the slots, where x was read at i
-module _ (slots : List (Option Rule)) (i : ℕ) (x : Option Rule) (below : i < length slots) (read : x ≡ get_or slots i x) where
-  at_slot : get_or slots i None ≡ x
-  at_slot = sym (get_or_read slots i x below read None)
-
-  pub rest_is : held (drop i slots) ≡ held (x ∷ drop (i + 1) slots)
-  rest_is = at_drop_more held slots i None below ∙ ap (λ o. held (o ∷ drop (i + 1) slots)) at_slot
-
-  pub found_number : (n : ℕ) → in_force n (held (x ∷ [])) ≡ true → Holds slots i n
-  found_number n h = go x at_slot h
+module _ (slots : List (Option Rule)) where
+  -- the slot found holds the number; where none is found, no rule has it
+  pub found_number : (n : ℕ) (o : Option ℕ) → o ≡ position (numbered n) slots → MatchOption o (in_force n (held slots) ≡ false) (λ i. Holds slots i n)
+  found_number n None h = not_in_force slots n (λ k below. none_passes (numbered n) slots h k None below)
+  found_number n (Some i) h = let f = position-Some (numbered n) slots i None (sym h) in go (get_or slots i None) refl f.0 f.1
     where
-      go : (o : Option Rule) → get_or slots i None ≡ o → in_force n (held (o ∷ [])) ≡ true → Holds slots i n
-      go None e k = absurd (false≢true k)
-      go (Some r) e k = record { within = below; rule = r; there = e; named = eqb-true r.given.number n (or_alone (eqb r.given.number n) k) }
+      go : (x : Option Rule) → get_or slots i None ≡ x → i < length slots → numbered n x ≡ true → Holds slots i n
+      go None e below k = absurd (false≢true k)
+      go (Some r) e below k = record { within = below; rule = r; there = e; named = eqb-true r.given.number n (or_alone (eqb r.given.number n) k) }
 
-  pub passed_number : (n : ℕ) → in_force n (held (x ∷ [])) ≡ false → in_force n (held (drop (i + 1) slots)) ≡ in_force n (held (drop i slots))
-  passed_number n h = sym (ap (in_force n) rest_is ∙ go x h)
+  -- the slot found is free; where none is found, none is
+  pub found_free : (o : Option ℕ) → o ≡ position is_free slots → MatchOption o (length (held slots) ≡ length slots) (λ i. Free slots i)
+  found_free None h = no_slot_free slots (λ k below. none_passes is_free slots h k None below)
+  found_free (Some i) h = let f = position-Some is_free slots i None (sym h) in go (get_or slots i None) refl f.0 f.1
     where
-      go : (o : Option Rule) → in_force n (held (o ∷ [])) ≡ false → in_force n (held (o ∷ drop (i + 1) slots)) ≡ in_force n (held (drop (i + 1) slots))
-      go None k = refl
-      go (Some r) k = ap (λ b. b || in_force n (held (drop (i + 1) slots))) (or_parts (eqb r.given.number n) false k).0
-
-  pub found_free : is_some x ≡ false → Free slots i
-  found_free h = go x at_slot h
-    where
-      go : (o : Option Rule) → get_or slots i None ≡ o → is_some o ≡ false → Free slots i
-      go None e k = record { within = below; empty = e }
-      go (Some r) e k = absurd (true≢false k)
-
-  pub passed_taken : is_some x ≡ true → length (held (drop i slots)) ≡ length (held (drop (i + 1) slots)) + 1
-  passed_taken h = ap length rest_is ∙ go x h
-    where
-      go : (o : Option Rule) → is_some o ≡ true → length (held (o ∷ drop (i + 1) slots)) ≡ length (held (drop (i + 1) slots)) + 1
-      go None k = absurd (false≢true k)
-      go (Some r) k = omega arith
-
-pub held_done : (slots : List (Option Rule)) (i : ℕ) → length slots ≤ i → held (drop i slots) ≡ []
-held_done slots i past = at_drop_all held slots i past
+      go : (x : Option Rule) → get_or slots i None ≡ x → i < length slots → is_free x ≡ true → Free slots i
+      go None e below k = record { within = below; empty = e }
+      go (Some r) e below k = absurd (false≢true k)
 
 -- whether a slot was found says whether the number is in force
 pub found_in_force : (slots : List (Option Rule)) (n : ℕ) (o : Option ℕ) → MatchOption o (in_force n (held slots) ≡ false) (λ i. Holds slots i n) → is_some o ≡ in_force n (held slots)

@@ -1,6 +1,5 @@
 -- Slots for rules, each free or taken.
-use Rattle.std.specs.Prelude.{◌≡◌, ℕ, ◌+◌, ◌<◌, Bool, cond, not, List, [], ◌∷◌, length, is_some, Some, None, Option, nat_le, slice_index_or}
-use Rattle.std.specs.Option.{option_map}
+use Rattle.std.specs.Prelude.{◌≡◌, ℕ, ◌<◌, Bool, not, List, [], ◌∷◌, length, is_some, Some, None, Option, nat_le, slice_index_or}
 use Rattle.rules.specs.declared.view.RuleRecord.{RuleRecord}
 use Rattle.policy.specs.Books.{in_force}
 use Rattle.rules.specs.declared.rule.Rule.{Rule}
@@ -10,11 +9,6 @@ abbrev pub held : List (Option Rule) → List RuleRecord
 held [] = []
 held (None ∷ slots) = held slots
 held (Some r ∷ slots) = r.given ∷ held slots
-
--- the first place of an element that passes
-abbrev pub place_of : {X : Type 0} → (X → Bool) → List X → Option ℕ
-place_of p [] = None
-place_of p (x ∷ xs) = cond (p x) (Some 0) (option_map (λ (k : ℕ). k + 1) (place_of p xs))
 
 -- whether a slot holds the rule of number n; whether it is free
 abbrev pub numbered : ℕ → Option Rule → Bool

@@ -9,11 +9,11 @@ ghost use Rattle.books.specs.Slots.{held, exact_fits};
 ghost use Rattle.books.specs.ExactLaws.{exact_lawful};
 ghost use Rattle.policy.proofs.Orders.{same_length};
 
-use crate::slots::{enter_rule, slots_allow, take_rule};
+use crate::slots::{free_slot, holds_number, slot_of};
 use chart::Chart;
-use policy::{Book, BookRefusal, Policy};
+use policy::{Book, BookRefusal, Policy, some_view_allows};
 use profile::Profile;
-use rules::{Rule, RuleRecord};
+use rules::{Rule, RuleRecord, check_rule};
 
 // A book that reads its rules exactly. It has a slot for each of 64 rules; a withdrawal frees its slot.
 #[derive(Clone, Copy)]
@@ -25,14 +25,27 @@ pub struct ExactBook {
     ghost formed: { all_of (well_formed (layout chart)) (held slots) ≡ true },
 }
 
-// A book whose slots are free.
-pub(crate) fn empty_book(chart: Chart) -> ExactBook
-    ensures chart { result.chart ≡ chart }
-    ensures rules { held result.slots ≡ [] }
-{
-    ExactBook {
-        chart,
-        slots: [None; 64],
+impl ExactBook {
+    // A book with no rules, which reads exactly and takes 64 rules.
+    pub fn new(chart: Chart) -> ExactBook
+        ensures chart { result.chart ≡ chart }
+        ensures rules { held result.slots ≡ [] }
+        ensures told { ⟦<ExactBook as Policy>⟧.charted result ≡ chart }
+        ensures listed { ⟦<ExactBook as Policy>⟧.rules result ≡ [] }
+        ensures reads { ⟦<ExactBook as Policy>⟧.reading result ≡ exact_reading }
+        ensures fitting { ⟦<ExactBook as Book>⟧.fits result ≡ exact_fits }
+    {
+        ExactBook {
+            chart,
+            slots: [None; 64],
+        }
+    }
+
+    // The slots, each with its rule or free.
+    pub fn slots(&self) -> &[Option<Rule>]
+        ensures { result.now ≡ self.now.slots }
+    {
+        &self.slots
     }
 }
 
@@ -50,7 +63,7 @@ impl Policy for ExactBook {
     }
 
     fn allows(&self, server: u16, profile: &Profile) -> bool {
-        slots_allow(&self.slots, server, profile)
+        some_view_allows(&self.slots, server, profile)
     }
 }
 
@@ -64,10 +77,18 @@ impl Book for ExactBook {
     ghost alike = { λ s xs ys h. ap (λ n. nat_le n 64) (same_length h) };
 
     fn enter(&mut self, given: RuleRecord) -> Result<(), BookRefusal> {
-        enter_rule(&self.chart, &mut self.slots, given)
+        let rule = check_rule(&self.chart, given)?;
+        if holds_number(&self.slots, rule.given.number) {
+            return Err(BookRefusal::InForce);
+        }
+        let i = free_slot(&self.slots).ok_or(BookRefusal::Full)?;
+        self.slots[i] = Some(rule);
+        Ok(())
     }
 
     fn withdraw(&mut self, number: u16) -> Result<(), BookRefusal> {
-        take_rule(&mut self.slots, number)
+        let i = slot_of(&self.slots, number).ok_or(BookRefusal::NotInForce)?;
+        self.slots[i] = None;
+        Ok(())
     }
 }

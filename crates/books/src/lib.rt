@@ -3,7 +3,6 @@
 
 mod exact;
 mod fault;
-mod make;
 mod sealed;
 mod slots;
 

@@ -23,51 +23,40 @@ pub struct SealedList<'a> {
     ghost formed: { all_of (well_formed (layout chart)) records.now ≡ true },
 }
 
-// Enters the records one after another into an empty exact book.
-fn enter_all(chart: &Chart, records: &[RuleRecord]) -> Result<(), Fault>
-    ensures answer { result ≡ sealed_answer (layout chart.now) records.now }
-    ensures distinct { OnOk result (apart records.now ≡ true) }
-    ensures formed { OnOk result (all_of (well_formed (layout chart.now)) records.now ≡ true) }
-{
-    let mut book = ExactBook::new(*chart);
-    for record in records {
-        if let Err(refusal) = book.enter(*record) {
-            return Err(Fault {
-                number: record.number,
-                refusal,
-            });
+impl<'a> SealedList<'a> {
+    // The list of these records, read exactly; it is empty where the check refuses them.
+    pub fn new(chart: Chart, records: &'a [RuleRecord]) -> SealedList<'a>
+        ensures chart { result.chart ≡ chart }
+        ensures rules { result.records.now ≡ sealed_rules (layout chart) records.now }
+        ensures told { ⟦<SealedList<'a> as Policy>⟧.charted result ≡ chart }
+        ensures listed { ⟦<SealedList<'a> as Policy>⟧.rules result ≡ sealed_rules (layout chart) records.now }
+        ensures reads { ⟦<SealedList<'a> as Policy>⟧.reading result ≡ exact_reading }
+    {
+        match SealedList::check(&chart, records) {
+            Ok(()) => SealedList { chart, records },
+            Err(_) => SealedList {
+                chart,
+                records: &[],
+            },
         }
     }
-    Ok(())
-}
 
-// Whether the records, read exactly, let a server see a profile.
-fn records_allow(records: &[RuleRecord], server: u16, profile: &Profile) -> bool
-    ensures { result ≡ exact_reading records.now server profile.now }
-{
-    some_view_allows(records, server, profile)
-}
-
-// The list of these records; it is empty where the check refuses them.
-pub(crate) fn sealed<'a>(chart: Chart, records: &'a [RuleRecord]) -> SealedList<'a>
-    ensures chart { result.chart ≡ chart }
-    ensures rules { result.records.now ≡ sealed_rules (layout chart) records.now }
-{
-    match enter_all(&chart, records) {
-        Ok(()) => SealedList { chart, records },
-        Err(_) => SealedList {
-            chart,
-            records: &[],
-        },
-    }
-}
-
-impl<'a> SealedList<'a> {
-    // The first refusal of the records, as if they were entered in an empty exact book.
+    // The first refusal of the records, as if they were entered one after another in an empty exact book.
     pub fn check(chart: &Chart, records: &[RuleRecord]) -> Result<(), Fault>
-        ensures { result ≡ sealed_answer (layout chart.now) records.now }
+        ensures answer { result ≡ sealed_answer (layout chart.now) records.now }
+        ensures distinct { OnOk result (apart records.now ≡ true) }
+        ensures formed { OnOk result (all_of (well_formed (layout chart.now)) records.now ≡ true) }
     {
-        enter_all(chart, records)
+        let mut book = ExactBook::new(*chart);
+        for record in records {
+            if let Err(refusal) = book.enter(*record) {
+                return Err(Fault {
+                    number: record.number,
+                    refusal,
+                });
+            }
+        }
+        Ok(())
     }
 }
 
@@ -85,6 +74,6 @@ impl<'a> Policy for SealedList<'a> {
     }
 
     fn allows(&self, server: u16, profile: &Profile) -> bool {
-        records_allow(self.records, server, profile)
+        some_view_allows(self.records, server, profile)
     }
 }

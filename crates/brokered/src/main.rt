@@ -4,12 +4,8 @@
 mod run;
 
 use crate::run::show_run;
-use anyhow::anyhow;
 use sample::sample_chart;
 
 fn main(rt: HostRuntime) -> anyhow::Result<()> {
-    let Ok(chart) = sample_chart() else {
-        return Err(anyhow!("the chart was refused"));
-    };
-    show_run(&rt, chart)
+    show_run(&rt, sample_chart()?)
 }

@@ -1,4 +1,4 @@
-use anyhow::anyhow;
+use anyhow::Context;
 use assignments::{Mode, Release, Step};
 use books::ExactBook;
 use broker::{Answer, Broker, Call};
@@ -17,13 +17,8 @@ type Stack = Denials<Carrier<AnyBook>>;
 
 // A broker over an exact book, with no carrier and no denials.
 fn open_sample(chart: Chart) -> anyhow::Result<Broker<Stack>> {
-    let Ok(carried) = Carrier::new(AnyBook::Exact(ExactBook::new(chart)), None) else {
-        return Err(anyhow!("the carrier was refused"));
-    };
-    let Ok(stack) = Denials::new(carried, &[]) else {
-        return Err(anyhow!("the denials were refused"));
-    };
-    Ok(Broker::open(stack))
+    let carried = Carrier::new(AnyBook::Exact(ExactBook::new(chart)), None)?;
+    Ok(Broker::open(Denials::new(carried, &[])?))
 }
 
 // Says what a call was answered.
@@ -47,9 +42,7 @@ fn show_answer(rt: &HostRuntime, answer: &Answer<u32>) -> anyhow::Result<()> {
 // The rules of the run: server 1 may see relation 0; server 0 may see 0 and relation 1, joined over link 0; server 1 may see 0.
 fn run_rules(chart: &Chart) -> anyhow::Result<[RuleRecord; 3]> {
     let none = SmallSet::empty();
-    let Some(zero) = SmallSet::single(0) else {
-        return Err(anyhow!("a set was refused"));
-    };
+    let zero = SmallSet::single(0).context("a set was refused")?;
     let whole = chart.attributes_of(0);
     let reply = chart.attributes_of(1).union(zero);
     Ok([
@@ -66,7 +59,6 @@ fn make_calls(
     calls: &[Call],
     answers: &mut [Answer<u32>],
 ) -> anyhow::Result<()> {
-    let none = SmallSet::empty();
     let mut work = [None; 9];
     let mut plan = [Step {
         executor: 0,
@@ -75,15 +67,9 @@ fn make_calls(
     let mut releases = [Release {
         sender: 0,
         receiver: 0,
-        profile: Profile {
-            shown: none,
-            path: none,
-            filtered: none,
-        },
+        profile: Profile::default(),
     }; 3];
-    let Ok(()) = broker.run(tariff, calls, answers, &mut work, &mut plan, &mut releases) else {
-        return Err(anyhow!("the run was refused"));
-    };
+    broker.run(tariff, calls, answers, &mut work, &mut plan, &mut releases)?;
     Ok(())
 }
 

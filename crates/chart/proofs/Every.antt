@@ -1,19 +1,10 @@
 -- Tests that every element passes, or some element, one element at a time.
-use Rattle.std.proofs.Common.{◌≡◌, ℕ, ◌+◌, ◌<◌, ◌≤◌, Bool, true, false, ◌&&◌, ◌||◌, List, [], ◌∷◌, ◌++◌, map, length, get_or, drop, refl, ap, ◌∙◌}
+use Rattle.std.proofs.Common.{◌≡◌, ℕ, ◌+◌, ◌<◌, ◌≤◌, Bool, true, false, ◌||◌, List, [], ◌∷◌, ◌++◌, map, length, get_or, drop, refl, ap, ◌∙◌}
 use Rattle.std.proofs.lemmas.List.{at_drop_more, at_drop_all}
 use Rattle.std.proofs.lemmas.Bool.{and_parts, and_from}
 use Rattle.chart.specs.Layout.{all_of, any_of}
 
 module _ {X : Type 0} (p : X → Bool) (xs : List X) (i : ℕ) where
-  pub all_stop : (d : X) → i < length xs → p (get_or xs i d) ≡ false → all_of p (drop i xs) ≡ false
-  all_stop d below fails = at_drop_more (all_of p) xs i d below ∙ ap (λ b. b && all_of p (drop (i + 1) xs)) fails
-
-  pub all_on : (d : X) → i < length xs → p (get_or xs i d) ≡ true → all_of p (drop i xs) ≡ all_of p (drop (i + 1) xs)
-  all_on d below passes = at_drop_more (all_of p) xs i d below ∙ ap (λ b. b && all_of p (drop (i + 1) xs)) passes
-
-  pub all_done : length xs ≤ i → all_of p (drop i xs) ≡ true
-  all_done past = at_drop_all (all_of p) xs i past
-
   pub any_stop : (d : X) → i < length xs → p (get_or xs i d) ≡ true → any_of p (drop i xs) ≡ true
   any_stop d below passes = at_drop_more (any_of p) xs i d below ∙ ap (λ b. b || any_of p (drop (i + 1) xs)) passes
 

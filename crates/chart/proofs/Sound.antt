@@ -1,11 +1,12 @@
 -- What is known of the parts of a chart.
-use Rattle.std.proofs.Common.{◌≡◌, ℕ, zero, suc, ◌<◌, Bool, true, eqb, ltb, List, [], ◌∷◌, length, is_some, IfSome, Some, None, Option, sym, refl, ap, ◌∙◌, inl, inr, arith}
+use Rattle.std.proofs.Common.{◌≡◌, ℕ, zero, suc, ◌<◌, Bool, true, eqb, ltb, List, [], ◌∷◌, length, is_some, IfSome, Some, None, Option, sym, refl, ap, ◌∙◌, subst, inl, inr, arith}
 use Rattle.std.specs.Option.{option_map}
 use Rattle.std.specs.List.{AllByRecursion, slice_get}
 use Rattle.std.proofs.lemmas.List.{length-take}
 use Rattle.std.proofs.lemmas.Option.{slice_get_past}
 use Rattle.std.proofs.lemmas.Bool.{and_parts, ltb-true, eq-eqb, not-true, both_ways, false≢true, cases_lt}
 use Rattle.chart.specs.declared.parts.Attribute.{Attribute}
+use Rattle.chart.specs.declared.parts.Link.{Link}
 use Rattle.chart.specs.declared.state.Chart.{Chart}
 use Rattle.chart.specs.Layout.{all_of, proper, crosses, differ, relation_in}
 use Rattle.chart.specs.Charts.{layout}
@@ -95,3 +96,10 @@ module _ (c : Chart) where
         | inl below ↦ below
         | inr past ↦ absurd (false≢true (sym (ap is_some (slice_get_past (layout c).links k (omega (arith, links_length, c.counted.2)))) ∙ h))
       ]
+
+  -- a link that is found, and its number
+  pub link_found : (k : ℕ) (x : Link) → slice_get (layout c).links k ≡ Some x → (k < 64) × (x.left < 64) × (x.right < 64)
+  link_found k x found =
+      let P : Option Link → Type 0 = λ o. IfSome o (λ x. (x.left < 64) × (x.right < 64)) in
+      let ends : (x.left < 64) × (x.right < 64) = subst P found (link_bound k) in
+      (link_known k (ap is_some found), ends.0, ends.1)

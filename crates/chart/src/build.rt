@@ -17,6 +17,7 @@ const NO_ATTRIBUTE: Attribute = Attribute {
 const NO_LINK: Link = Link { left: 0, right: 0 };
 
 // A chart of servers alone.
+#[tactic(auto, unfolding(crate::specs::Build::bare))]
 fn bare_chart(servers: u16) -> Chart
     requires { (0 < servers) × (servers ≤ 16) }
     ensures { layout result ≡ bare servers }
@@ -37,12 +38,7 @@ fn bare_chart(servers: u16) -> Chart
 fn all_positive(widths: &[u16]) -> bool
     ensures { result ≡ all_of (λ w. nat_lt 0 w) widths.now }
 {
-    for w in widths {
-        if *w == 0 {
-            return false;
-        }
-    }
-    true
+    widths.iter().all(|width| *width != 0)
 }
 
 // The questions for a new relation; the answer is its number.
@@ -52,7 +48,7 @@ fn check_relation(chart: &Chart, server: u16, widths: &[u16]) -> Result<u16, Cha
     if server >= chart.servers {
         return Err(ChartRefusal::Home);
     }
-    if widths.len() == 0 || !all_positive(widths) {
+    if widths.is_empty() || !all_positive(widths) {
         return Err(ChartRefusal::Widths);
     }
     if chart.relation_count >= 32 || widths.len() > 64 - chart.attribute_count {
@@ -91,12 +87,7 @@ fn put_relation(chart: &mut Chart, server: u16, widths: &[u16])
 fn is_linked(links: &[Link], a: u16, b: u16) -> bool
     ensures { result ≡ any_of (joins a b) links.now }
 {
-    for link in links {
-        if same_pair(*link, a, b) {
-            return true;
-        }
-    }
-    false
+    links.iter().any(|link| same_pair(*link, a, b))
 }
 
 // Whether a link is between these two, either way round.
@@ -126,7 +117,7 @@ fn check_link(chart: &Chart, a: u16, b: u16) -> Result<u16, ChartRefusal>
     if chart.link_count >= 64 {
         return Err(ChartRefusal::LinkLimit);
     }
-    if is_linked(&chart.links[0..chart.link_count], a, b) {
+    if is_linked(&chart.links[..chart.link_count], a, b) {
         return Err(ChartRefusal::LinkRepeated);
     }
     Ok(chart.link_count as u16)

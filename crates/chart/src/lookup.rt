@@ -10,36 +10,11 @@ use crate::parts::{Attribute, Grade, Link};
 use crate::state::Chart;
 use sets::SmallSet;
 
-// The element at a place among the first `count`.
-fn entry<T: Copy>(xs: &[T], count: usize, i: u16) -> Option<T>
-    ensures { result ≡ slice_get (take count xs.now) i }
-{
-    let i = i as usize;
-    if i < count && i < xs.len() {
-        Some(xs[i])
-    } else {
-        None
-    }
-}
-
-// The ends of a link as sets.
-fn end_sets(link: Link) -> (SmallSet, SmallSet)
-    requires { (link.left < 64) × (link.right < 64) }
-    ensures { result ≡ ends link }
-{
-    match (SmallSet::single(link.left), SmallSet::single(link.right)) {
-        (Some(left), Some(right)) => (left, right),
-        _ => unreachable(),
-    }
-}
-
-// A link by its number. It and its ends are below 64.
+// A link by its number.
 fn link_at(chart: &Chart, link: u16) -> Option<Link>
-    ensures value { result ≡ slice_get (layout chart.now).links link }
-    ensures known { is_some result ≡ true → link < 64 }
-    ensures bound { IfSome result (λ x. (x.left < 64) × (x.right < 64)) }
+    ensures { result ≡ slice_get (layout chart.now).links link }
 {
-    entry(&chart.links, chart.link_count, link)
+    chart.links[..chart.link_count].get(link as usize).copied()
 }
 
 // An attribute by its number. It belongs to one of at most 32 relations.
@@ -47,7 +22,9 @@ fn attribute_at(chart: &Chart, attribute: u16) -> Option<Attribute>
     ensures value { result ≡ slice_get (layout chart.now).attributes attribute }
     ensures bound { IfSome result (λ x. x.relation < 32) }
 {
-    entry(&chart.attributes, chart.attribute_count, attribute)
+    chart.attributes[..chart.attribute_count]
+        .get(attribute as usize)
+        .copied()
 }
 
 // The places of the attributes of a relation.
@@ -69,10 +46,7 @@ fn with_place(set: SmallSet, i: usize) -> SmallSet
     requires { i < 64 }
     ensures { result ≡ union set (single i) }
 {
-    match set.insert(i as u16) {
-        Some(more) => more,
-        None => unreachable(),
-    }
+    set.insert(i as u16).unwrap_or(set)
 }
 
 // Where the grade of a line stands among the grades.
@@ -104,10 +78,7 @@ fn all_below(set: SmallSet, count: usize) -> bool
     requires { count ≤ 64 }
     ensures { result ≡ subset set (below count) }
 {
-    match SmallSet::below(count as u16) {
-        Some(known) => set.is_subset(known),
-        None => unreachable(),
-    }
+    SmallSet::below(count as u16).is_some_and(|known| set.is_subset(known))
 }
 
 impl Chart {
@@ -122,7 +93,9 @@ impl Chart {
     pub fn server_of(&self, relation: u16) -> Option<u16>
         ensures { result ≡ server_of (layout self.now) relation }
     {
-        entry(&self.homes, self.relation_count, relation)
+        self.homes[..self.relation_count]
+            .get(relation as usize)
+            .copied()
     }
 
     // The relation to which an attribute belongs.
@@ -130,18 +103,14 @@ impl Chart {
         ensures value { result ≡ relation_of (layout self.now) attribute }
         ensures bound { IfSome result (λ x. x < 32) }
     {
-        let found = attribute_at(self, attribute)?;
-        Some(found.relation)
+        attribute_at(self, attribute).map(|found| found.relation)
     }
 
     // How many bytes wide an attribute is; 0 where it is not known.
     pub fn width(&self, attribute: u16) -> u16
         ensures { result ≡ width_of (layout self.now) attribute }
     {
-        match attribute_at(self, attribute) {
-            Some(found) => found.width,
-            None => 0,
-        }
+        attribute_at(self, attribute).map_or(0, |found| found.width)
     }
 
     // The two ends of a link, each as the set of its attributes, in the order in which they were declared.
@@ -150,14 +119,14 @@ impl Chart {
         ensures known { is_some result ≡ true → link < 64 }
     {
         let found = link_at(self, link)?;
-        Some(end_sets(found))
+        SmallSet::single(found.left).zip(SmallSet::single(found.right))
     }
 
     // The attributes of a relation; the empty set where the relation is not known.
     pub fn attributes_of(&self, relation: u16) -> SmallSet
         ensures { result ≡ attributes_of (layout self.now) relation }
     {
-        places_of(&self.attributes[0..self.attribute_count], relation)
+        places_of(&self.attributes[..self.attribute_count], relation)
     }
 
     // Whether every attribute of a set is known.

@@ -8,32 +8,25 @@ mod tests {
 
     // 0 for an accepted call, else the number of the refusal.
     fn code<T: Drop>(answer: Result<T, ChartRefusal>) -> u16 {
-        match answer {
-            Ok(_) => 0,
-            Err(refusal) => refusal.number(),
-        }
+        answer.err().map_or(0, |refusal| refusal.number())
     }
 
     // A chart of so many servers that the caller knows to be allowed.
     fn servers(n: u16) -> Result<Chart, Fail> {
-        match Chart::new(n) {
-            Ok(chart) => Ok(chart),
-            Err(_) => Err(Fail::new("no chart")),
-        }
+        Chart::new(n).map_err(|_| Fail::new("no chart"))
     }
 
     // Whether two charts answer alike on every number that may be known, and one beyond.
     fn alike(a: &Chart, b: &Chart) -> bool {
-        let mut same = a.servers() == b.servers();
-        for i in 0..65u16 {
-            same = same && a.server_of(i) == b.server_of(i) && a.relation_of(i) == b.relation_of(i);
-            same = same && a.width(i) == b.width(i) && a.attributes_of(i) == b.attributes_of(i);
-            same = same && a.ends(i) == b.ends(i);
-            for j in 0..17u16 {
-                same = same && a.grade(i, j) == b.grade(i, j);
-            }
-        }
-        same
+        a.servers() == b.servers()
+            && (0..65).all(|i| {
+                a.server_of(i) == b.server_of(i)
+                    && a.relation_of(i) == b.relation_of(i)
+                    && a.width(i) == b.width(i)
+                    && a.attributes_of(i) == b.attributes_of(i)
+                    && a.ends(i) == b.ends(i)
+                    && (0..17).all(|j| a.grade(i, j) == b.grade(i, j))
+            })
     }
 
     #[test]

@@ -15,20 +15,20 @@ use Rattle.composed.specs.Lawful.{composed_lawful}
 
 abbrev pub any_charted : AnyBook → Chart
 any_charted (Exact b) = b.chart
-any_charted (Composed b) = b.chart
+any_charted (Composed b) = b.exact.chart
 
 abbrev pub any_rules : AnyBook → List RuleRecord
 any_rules (Exact b) = held b.slots
-any_rules (Composed b) = held b.slots
+any_rules (Composed b) = held b.exact.slots
 
 abbrev pub any_reading : AnyBook → List RuleRecord → ℕ → Profile → Bool
 any_reading (Exact b) = exact_reading
-any_reading (Composed b) = composed_reading (layout b.chart)
+any_reading (Composed b) = composed_reading (layout b.exact.chart)
 
 abbrev pub any_fits : AnyBook → List RuleRecord → Bool
 any_fits (Exact b) = exact_fits
-any_fits (Composed b) = composed_fits (layout b.chart)
+any_fits (Composed b) = composed_fits (layout b.exact.chart)
 
 pub any_lawful : (b : AnyBook) → Lawful (any_charted b) (any_rules b) (any_reading b)
 any_lawful (Exact b) = exact_lawful b.chart (held b.slots) b.distinct b.formed
-any_lawful (Composed b) = composed_lawful b.chart (held b.slots) b.ruled.0 b.ruled.1
+any_lawful (Composed b) = composed_lawful b.exact.chart (held b.exact.slots) b.exact.distinct b.exact.formed

@@ -1,5 +1,5 @@
 pub mod Composed
 pub mod Lawful
-pub mod Kept
+pub mod Table
 pub mod AnyBook
 pub mod Books

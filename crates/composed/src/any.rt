@@ -47,45 +47,29 @@ impl Policy for AnyBook {
 impl Book for AnyBook {
     ghost fits = { any_fits };
 
-    ghost lone = { elim [ Exact b ↦ λ r. refl | Composed b ↦ λ r. lone_fits b.chart r ] };
+    ghost lone = { elim [ Exact b ↦ λ r. refl | Composed b ↦ λ r. lone_fits b.exact.chart r ] };
 
     ghost less = { elim [
       | Exact b ↦ λ r xs h. le-leb (length xs) 64 (omega (arith, leb-true (suc (length xs)) 64 h))
-      | Composed b ↦ λ r xs h. less_fits b.chart r xs h
+      | Composed b ↦ λ r xs h. less_fits b.exact.chart r xs h
     ] };
 
     ghost alike = { elim [
       | Exact b ↦ λ xs ys h. ap (λ n. nat_le n 64) (same_length h)
-      | Composed b ↦ λ xs ys h. alike_fits b.chart xs ys h
+      | Composed b ↦ λ xs ys h. alike_fits b.exact.chart xs ys h
     ] };
 
     fn enter(&mut self, given: RuleRecord) -> Result<(), BookRefusal> {
-        match *self {
-            AnyBook::Exact(mut exact) => {
-                let answer = exact.enter(given);
-                *self = AnyBook::Exact(exact);
-                answer
-            }
-            AnyBook::Composed(mut composed) => {
-                let answer = composed.enter(given);
-                *self = AnyBook::Composed(composed);
-                answer
-            }
+        match self {
+            AnyBook::Exact(book) => book.enter(given),
+            AnyBook::Composed(book) => book.enter(given),
         }
     }
 
     fn withdraw(&mut self, number: u16) -> Result<(), BookRefusal> {
-        match *self {
-            AnyBook::Exact(mut exact) => {
-                let answer = exact.withdraw(number);
-                *self = AnyBook::Exact(exact);
-                answer
-            }
-            AnyBook::Composed(mut composed) => {
-                let answer = composed.withdraw(number);
-                *self = AnyBook::Composed(composed);
-                answer
-            }
+        match self {
+            AnyBook::Exact(book) => book.withdraw(number),
+            AnyBook::Composed(book) => book.withdraw(number),
         }
     }
 }

@@ -1,66 +1,94 @@
-ghost use Rattle.std.specs.Prelude.{◌≡◌, ◌≤◌, true, [], length, take};
+ghost use Rattle.std.specs.Prelude.{◌≡◌, ◌≤◌, [], length, take};
 ghost use Rattle.chart.specs.Charts.{layout};
-ghost use Rattle.chart.specs.Layout.{all_of};
 ghost use Rattle.rules.specs.declared.view.View.{View};
-ghost use Rattle.rules.specs.Rules.{well_formed};
 ghost use Rattle.members.specs.Members.{among};
-ghost use Rattle.policy.specs.Books.{apart};
 ghost use Rattle.books.specs.Slots.{held};
-ghost use Rattle.composed.specs.Composed.{composed_members, composed_reading};
+ghost use Rattle.composed.specs.Composed.{composed_members, composed_reading, composed_fits};
 ghost use Rattle.composed.specs.Lawful.{composed_lawful};
+ghost use Rattle.composed.specs.Books.{lone_fits, less_fits, alike_fits};
 
-use crate::calls::members_allow;
+use crate::table::MemberTable;
+use books::ExactBook;
 use chart::Chart;
-use policy::Policy;
+use policy::{Book, BookRefusal, Policy, some_view_allows};
 use profile::Profile;
-use rules::{Rule, View};
-use sets::SmallSet;
+use rules::RuleRecord;
 
-// A book that composes its rules: each server may also see what its rules let it join for itself. The first `count`
-// places of the table are the members, the views of the rules and all that they compose to.
+// A book that composes its rules: each server may also see what its rules let it join for itself. It holds its rules as
+// an exact book does, and beside them the members: the views of the rules and all that they compose to.
 #[derive(Clone, Copy)]
 pub struct ComposedBook {
-    pub(crate) chart: Chart,
-    pub(crate) slots: [Option<Rule>; 64],
-    pub(crate) table: [View; 256],
-    pub(crate) count: usize,
-    ghost sized: { (length slots ≡ 64) × (length table ≡ 256) × (count ≤ 256) },
-    ghost ruled: { (apart (held slots) ≡ true) × (all_of (well_formed (layout chart)) (held slots) ≡ true) },
-    ghost grown: { (length (composed_members (layout chart) (held slots)) ≤ 256) × ((v : View) → among v (take count table) ≡ among v (composed_members (layout chart) (held slots))) },
+    exact: ExactBook,
+    members: MemberTable,
+    ghost few: { length (composed_members (layout exact.chart) (held exact.slots)) ≤ 256 },
+    ghost grown: { (v : View) → among v (take members.count members.places) ≡ among v (composed_members (layout exact.chart) (held exact.slots)) },
 }
 
-// A book whose slots are free.
-pub(crate) fn empty_book(chart: Chart) -> ComposedBook
-    ensures chart { result.chart ≡ chart }
-    ensures rules { held result.slots ≡ [] }
-{
-    let none = View {
-        server: 0,
-        attributes: SmallSet::empty(),
-        path: SmallSet::empty(),
-    };
-    ComposedBook {
-        chart,
-        slots: [None; 64],
-        table: [none; 256],
-        count: 0,
+impl ComposedBook {
+    // A book with no rules, which reads what its rules compose to and takes 64 rules of at most 256 members.
+    pub fn new(chart: Chart) -> ComposedBook
+        ensures chart { result.exact.chart ≡ chart }
+        ensures rules { held result.exact.slots ≡ [] }
+        ensures told { ⟦<ComposedBook as Policy>⟧.charted result ≡ chart }
+        ensures listed { ⟦<ComposedBook as Policy>⟧.rules result ≡ [] }
+        ensures reads { ⟦<ComposedBook as Policy>⟧.reading result ≡ composed_reading (layout chart) }
+        ensures fitting { ⟦<ComposedBook as Book>⟧.fits result ≡ composed_fits (layout chart) }
+    {
+        ComposedBook {
+            exact: ExactBook::new(chart),
+            members: MemberTable::empty(),
+        }
     }
 }
 
 impl Policy for ComposedBook {
-    ghost charted = { λ b. b.chart };
+    ghost charted = { λ b. b.exact.chart };
 
-    ghost rules = { λ b. held b.slots };
+    ghost rules = { λ b. held b.exact.slots };
 
-    ghost reading = { λ b. composed_reading (layout b.chart) };
+    ghost reading = { λ b. composed_reading (layout b.exact.chart) };
 
-    ghost lawful = { λ b. composed_lawful b.chart (held b.slots) b.ruled.0 b.ruled.1 };
+    ghost lawful = { λ b. composed_lawful b.exact.chart (held b.exact.slots) b.exact.distinct b.exact.formed };
 
     fn chart(&self) -> &Chart {
-        &self.chart
+        self.exact.chart()
     }
 
     fn allows(&self, server: u16, profile: &Profile) -> bool {
-        members_allow(&self.table, self.count, server, profile)
+        some_view_allows(self.members.views(), server, profile)
+    }
+}
+
+impl Book for ComposedBook {
+    ghost fits = { λ b. composed_fits (layout b.exact.chart) };
+
+    ghost lone = { λ s r. lone_fits s.exact.chart r };
+
+    ghost less = { λ s r xs h. less_fits s.exact.chart r xs h };
+
+    ghost alike = { λ s xs ys h. alike_fits s.exact.chart xs ys h };
+
+    fn enter(&mut self, given: RuleRecord) -> Result<(), BookRefusal> {
+        let mut more = self.exact;
+        more.enter(given)?;
+        let members = MemberTable::of(&more).ok_or(BookRefusal::Full)?;
+        *self = ComposedBook {
+            exact: more,
+            members,
+        };
+        Ok(())
+    }
+
+    fn withdraw(&mut self, number: u16) -> Result<(), BookRefusal> {
+        let mut fewer = self.exact;
+        fewer.withdraw(number)?;
+        let Some(members) = MemberTable::of(&fewer) else {
+            unreachable()
+        };
+        *self = ComposedBook {
+            exact: fewer,
+            members,
+        };
+        Ok(())
     }
 }

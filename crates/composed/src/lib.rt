@@ -3,10 +3,6 @@
 
 mod any;
 mod book;
-mod booked;
-mod calls;
-mod grown;
-mod make;
 mod pairs;
 mod table;
 

@@ -2,17 +2,10 @@
 ghost use Rattle.std.specs.Prelude.{◌≡◌, ◌<◌, ◌&&◌, Some, ◌==◌};
 ghost use Rattle.chart.specs.Charts.{layout};
 ghost use Rattle.members.specs.Compose.{lies_across, bridges, share_none, composition};
-ghost use Rattle.members.specs.Members.{same_view};
 
 use chart::Chart;
 use rules::{View, relations};
 use sets::SmallSet;
-
-pub(crate) fn is_same(v: View, w: View) -> bool
-    ensures { result ≡ same_view v w }
-{
-    v.server == w.server && v.attributes.is_same(w.attributes) && v.path.is_same(w.path)
-}
 
 // Whether one of two sets lies in s and the other in t.
 fn lie_across(left: SmallSet, right: SmallSet, s: SmallSet, t: SmallSet) -> bool
@@ -25,10 +18,12 @@ fn lie_across(left: SmallSet, right: SmallSet, s: SmallSet, t: SmallSet) -> bool
 pub(crate) fn is_bridged(chart: &Chart, a: View, b: View, link: u16) -> bool
     ensures { result ≡ bridges (layout chart.now) a b link }
 {
-    match chart.ends(link) {
-        Some((left, right)) => lie_across(left, right, a.attributes, b.attributes),
-        None => false,
-    }
+    chart.ends(link).is_some_and(|(left, right)| lie_across(
+        left,
+        right,
+        a.attributes,
+        b.attributes,
+    ))
 }
 
 // Whether two views share no relation.
@@ -50,12 +45,12 @@ pub(crate) fn compose(a: View, b: View, link: u16) -> View
     requires { link < 64 }
     ensures { result ≡ composition a b link }
 {
-    match a.path.union(b.path).insert(link) {
-        Some(path) => View {
-            server: a.server,
-            attributes: a.attributes.union(b.attributes),
-            path,
-        },
-        None => unreachable(),
+    let Some(path) = a.path.union(b.path).insert(link) else {
+        unreachable()
+    };
+    View {
+        server: a.server,
+        attributes: a.attributes.union(b.attributes),
+        path,
     }
 }

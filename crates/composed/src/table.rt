@@ -1,124 +1,121 @@
-// A table of at most 256 members, filled from its front.
-ghost use Rattle.std.specs.Prelude.{◌≡◌, ◌<◌, ◌≤◌, List, [], ◌∷◌, length, take, slice_index_or};
+ghost use Rattle.std.specs.Prelude.{◌≡◌, ◌<◌, ◌≤◌, List, [], ◌∷◌, length, take, slice_index_or, MatchOption};
 ghost use Rattle.std.specs.List.{flat_map};
 ghost use Rattle.rules.specs.declared.view.View.{View};
 ghost use Rattle.chart.specs.Charts.{layout};
 ghost use Rattle.members.specs.Compose.{compositions};
-ghost use Rattle.members.specs.Members.{among, with_new};
-ghost use Rattle.members.specs.Table.{no_view, Filled, Growing, Grown};
+ghost use Rattle.members.specs.Members.{with_new, members};
+ghost use Rattle.members.specs.Table.{no_view, Growing, Holds};
+ghost use Rattle.policy.specs.Reading.{granted};
+ghost use Rattle.books.specs.Slots.{held};
 
-use crate::pairs::{compose, is_bridged, is_same, may_compose};
+use crate::pairs::{compose, is_bridged, may_compose};
+use books::ExactBook;
 use chart::Chart;
-use rules::View;
+use policy::Policy;
+use rules::{Rule, View};
 
-// Whether a view is in a list.
-fn is_among(v: View, views: &[View]) -> bool
-    ensures { result ≡ among v views.now }
-{
-    for w in views {
-        if is_same(v, *w) {
-            return true;
+// At most 256 views, in the first `count` places of a table. A book that holds one is Copy, so it is no ArrayVec.
+#[derive(Clone, Copy)]
+pub(crate) struct MemberTable {
+    pub(crate) places: [View; 256],
+    pub(crate) count: usize,
+    ghost sized: { length places ≡ 256 },
+    ghost counted: { count ≤ 256 },
+}
+
+impl MemberTable {
+    ghost use Rattle.composed.specs.Table.{listed, Fills, Gathers};
+
+    // A table with no view.
+    pub(crate) fn empty() -> MemberTable
+        ensures { listed result ≡ [] }
+    {
+        MemberTable {
+            places: [View::default(); 256],
+            count: 0,
         }
     }
-    false
-}
 
-// Puts a view behind the first n, unless it is one of them; none where the table is full.
-fn add(table: &mut [View], n: usize, v: View) -> Option<usize>
-    requires { (length table.old ≡ 256) × (n ≤ 256) }
-    ensures { Filled result table.new (with_new (take n table.old) (v ∷ [])) }
-{
-    if is_among(v, &table[0..n]) {
-        return Some(n);
+    // The views of the table.
+    pub(crate) fn views(&self) -> &[View]
+        ensures { result.now ≡ listed self.now }
+    {
+        &self.places[..self.count]
     }
-    if n == 256 {
-        return None;
-    }
-    table[n] = v;
-    Some(n + 1)
-}
 
-// Adds the given views to an empty table.
-fn add_given(table: &mut [View], given: &[View]) -> Option<usize>
-    requires { length table.old ≡ 256 }
-    ensures { Filled result table.new (with_new [] given.now) }
-{
-    let mut n = 0usize;
-    for v in given {
-        let Some(m) = add(table, n, *v) else {
-            return None;
-        };
-        n = m;
-    }
-    Some(n)
-}
-
-// Adds what two views compose to over any link.
-fn add_pair(chart: &Chart, table: &mut [View], mut n: usize, a: View, b: View) -> Option<usize>
-    requires { (length table.old ≡ 256) × (n ≤ 256) }
-    ensures { Filled result table.new (with_new (take n table.old) (compositions (layout chart.now) a b)) }
-{
-    if !may_compose(chart, a, b) {
-        return Some(n);
-    }
-    for k in 0..64u16 {
-        if is_bridged(chart, a, b, k) {
-            let Some(m) = add(table, n, compose(a, b, k)) else {
-                return None;
-            };
-            n = m;
+    // Puts a view behind the others, unless it is one of them; none where the table is full.
+    fn add(&mut self, v: View) -> Option<()>
+        ensures { Fills result self.new (with_new (listed self.old) (v ∷ [])) }
+    {
+        if self.views().contains(&v) {
+            return Some(());
         }
-    }
-    Some(n)
-}
-
-// Adds what the view at place i composes to with those before it.
-fn add_row(chart: &Chart, table: &mut [View], mut n: usize, i: usize) -> Option<usize>
-    requires { (length table.old ≡ 256) × ((n ≤ 256) × (i < n)) }
-    ensures { Filled result table.new (with_new (take n table.old) (flat_map (compositions (layout chart.now) (slice_index_or table.old i no_view)) (take i table.old))) }
-{
-    let a = table[i];
-    for j in 0..i {
-        let b = table[j];
-        let Some(m) = add_pair(chart, table, n, a, b) else {
+        if self.count == 256 {
             return None;
-        };
-        n = m;
+        }
+        self.places[self.count] = v;
+        self.count += 1;
+        Some(())
     }
-    Some(n)
-}
 
-// Composes each of the first n views with all before it, and so on with what is added, until no view is left to compose.
-fn close(chart: &Chart, table: &mut [View], mut n: usize) -> Option<usize>
-    requires { (length table.old ≡ 256) × (n ≤ 256) }
-    ensures { (given : List View) → Growing (layout chart.now) given (take n table.old) 0 → Grown (layout chart.now) given table.new result }
-{
-    let mut i = 0usize;
-    while i < n {
-        let Some(m) = add_row(chart, table, n, i) else {
-            return None;
-        };
-        n = m;
-        i += 1;
+    // Adds what two views compose to over any link.
+    fn add_pair(&mut self, chart: &Chart, a: View, b: View) -> Option<()>
+        ensures { Fills result self.new (with_new (listed self.old) (compositions (layout chart.now) a b)) }
+    {
+        if !may_compose(chart, a, b) {
+            return Some(());
+        }
+        for link in 0..64 {
+            if is_bridged(chart, a, b, link) {
+                self.add(compose(a, b, link))?;
+            }
+        }
+        Some(())
     }
-    Some(n)
-}
 
-// Adds the given views, then all that members compose to.
-fn fill(chart: &Chart, given: &[View], table: &mut [View]) -> Option<usize>
-    requires { length table.old ≡ 256 }
-    ensures { Grown (layout chart.now) given.now table.new result }
-{
-    let Some(n) = add_given(table, given) else {
-        return None;
-    };
-    close(chart, table, n)
-}
+    // Adds what the view at place i composes to with those before it.
+    fn add_row(&mut self, chart: &Chart, i: usize) -> Option<()>
+        requires { i < self.old.count }
+        ensures { Fills result self.new (with_new (listed self.old) (flat_map (compositions (layout chart.now) (slice_index_or self.old.places i no_view)) (take i self.old.places))) }
+    {
+        let a = self.places[i];
+        for j in 0..i {
+            self.add_pair(chart, a, self.places[j])?;
+        }
+        Some(())
+    }
 
-// Fills the table from its front with the members of the given views, each once, and returns their number; none where
-// there are more than 256.
-pub(crate) fn grow(chart: &Chart, given: &[View], table: &mut [View; 256]) -> Option<usize>
-    ensures { Grown (layout chart.now) given.now table.new result }
-{
-    fill(chart, given, table)
+    // Composes each view with all before it, and so on with what is added, until no view is left to compose.
+    fn close(&mut self, chart: &Chart) -> Option<()>
+        ensures { (given : List View) → Growing (layout chart.now) given (listed self.old) 0 → MatchOption result (256 < length (members (layout chart.now) given)) (λ u. Holds (layout chart.now) given self.new.places self.new.count) }
+    {
+        let mut i = 0usize;
+        while i < self.count {
+            self.add_row(chart, i)?;
+            i += 1;
+        }
+        Some(())
+    }
+
+    // Adds the views of the rules in the slots.
+    fn add_held(&mut self, slots: &[Option<Rule>]) -> Option<()>
+        ensures { Fills result self.new (with_new (listed self.old) (granted (held slots.now))) }
+    {
+        for slot in slots {
+            if let Some(rule) = slot {
+                self.add(rule.given.view)?;
+            }
+        }
+        Some(())
+    }
+
+    // The members of the rules of a book, each once; none where there are more than 256.
+    pub(crate) fn of(book: &ExactBook) -> Option<MemberTable>
+        ensures { Gathers (layout book.now.chart) (granted (held book.now.slots)) result }
+    {
+        let mut table = MemberTable::empty();
+        table.add_held(book.slots())?;
+        table.close(book.chart())?;
+        Some(table)
+    }
 }

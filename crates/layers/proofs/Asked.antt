@@ -1,5 +1,5 @@
 -- Questions asked one after another.
-use Rattle.std.proofs.Common.{◌≡◌, ℕ, ◌+◌, ◌<◌, ◌≤◌, Bool, true, false, cond, ltb, List, [], ◌∷◌, ◌++◌, length, get_or, drop, Ok, Err, sym, refl, ◌∙◌}
+use Rattle.std.proofs.Common.{◌≡◌, ℕ, ◌+◌, ◌<◌, ◌≤◌, Bool, true, false, cond, ltb, List, [], ◌∷◌, ◌++◌, length, get_or, drop, Ok, Err, sym, refl, ap, ◌∙◌}
 use Rattle.std.proofs.lemmas.List.{at_drop_more, at_drop_all}
 use Rattle.std.proofs.lemmas.Bool.{ltb-true}
 use Rattle.chart.specs.Questions.{asked}
@@ -37,16 +37,18 @@ held_below l i d h = ltb-true i 32 (go (fit l d) (ltb i 32) h)
 
 -- a loop that asks the questions for denial i
 module _ (l : Layout) (ds : List Denial) (i : ℕ) (so_far : asked (denials_questions l i (drop i ds)) tt ≡ denials_answer l ds) where
-  pub refused_at : (d : Denial) (e : LayerRefusal) → i < length ds → Err e ≡ denial_answer l i (get_or ds i d) → Err e ≡ denials_answer l ds
-  refused_at d e below h =
+  pub refused_at : (d : Denial) (n : ℕ) (e : LayerRefusal) → n ≡ i → i < length ds → Err e ≡ denial_answer l n (get_or ds i d) → Err e ≡ denials_answer l ds
+  refused_at d n e same below h =
       let x = get_or ds i d in
-      sym (asked_refused tt (denial_questions l i x) (denials_questions l (i + 1) (drop (i + 1) ds)) e (sym h))
+      let asked_now : denial_answer l i x ≡ Err e = ap (λ k. denial_answer l k x) (sym same) ∙ sym h in
+      sym (asked_refused tt (denial_questions l i x) (denials_questions l (i + 1) (drop (i + 1) ds)) e asked_now)
       ∙ sym (at_drop_more (λ ys. asked (denials_questions l i ys) tt) ds i d below) ∙ so_far
 
-  pub passed_at : (d : Denial) → i < length ds → Ok tt ≡ denial_answer l i (get_or ds i d) → asked (denials_questions l (i + 1) (drop (i + 1) ds)) tt ≡ denials_answer l ds
-  passed_at d below h =
+  pub passed_at : (d : Denial) (n : ℕ) → n ≡ i → i < length ds → Ok tt ≡ denial_answer l n (get_or ds i d) → asked (denials_questions l (i + 1) (drop (i + 1) ds)) tt ≡ denials_answer l ds
+  passed_at d n same below h =
       let x = get_or ds i d in
-      sym (asked_passed tt (denial_questions l i x) (denials_questions l (i + 1) (drop (i + 1) ds)) (sym h))
+      let asked_now : denial_answer l i x ≡ Ok tt = ap (λ k. denial_answer l k x) (sym same) ∙ sym h in
+      sym (asked_passed tt (denial_questions l i x) (denials_questions l (i + 1) (drop (i + 1) ds)) asked_now)
       ∙ sym (at_drop_more (λ ys. asked (denials_questions l i ys) tt) ds i d below) ∙ so_far
 
   pub passed_all : length ds ≤ i → Ok tt ≡ denials_answer l ds

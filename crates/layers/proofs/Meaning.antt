@@ -1,12 +1,11 @@
 -- What it means that some denial forbids a profile.
-use Rattle.std.proofs.Common.{◌≡◌, ℕ, zero, suc, ◌+◌, ◌<◌, ◌≤◌, Bool, true, false, eqb, ◌⊎◌, List, [], ◌∷◌, length, get_or, drop, Decides, sym, refl, ap, ◌∙◌, inl, inr, ⊎_elim, arith}
+use Rattle.std.proofs.Common.{◌≡◌, ℕ, zero, suc, Bool, true, false, eqb, ◌⊎◌, List, [], ◌∷◌, Decides, sym, refl, ap, ◌∙◌, inl, inr, ⊎_elim, arith}
 use Rattle.std.specs.List.{ContainsAt as Has}
 use Rattle.std.proofs.lemmas.Bool.{and_parts, and_from, or_cases, or_left, or_right, eqb-true, eq-eqb}
 use Rattle.sets.specs.declared.small_set.SmallSet.{SmallSet}
 use Rattle.sets.specs.Sets.{has, union, subset}
 use Rattle.sets.proofs.Sets.{subset_has, has_subset, union_has}
 use Rattle.chart.specs.Layout.{any_of}
-use Rattle.chart.proofs.Every.{any_stop, any_on, any_done}
 use Rattle.profile.specs.declared.shape.Profile.{Profile}
 use Rattle.layers.specs.declared.denial.Denial.{Denial}
 use Rattle.layers.specs.Readings.{hits, denied, Denied}
@@ -52,14 +51,3 @@ denied_means ds server p = (told, tells)
         any_has (hits server p) ds d among
         (and_from (eqb d.server server) (subset d.attributes (union p.shown p.filtered))
         (eq-eqb d.server server its) (in_lies d.attributes p.shown p.filtered lie))
-
--- a loop that looks for a denial that forbids, at denial i
-module _ (ds : List Denial) (server : ℕ) (p : Profile) (i : ℕ) (so_far : denied (drop i ds) server p ≡ denied ds server p) where
-  pub hit_at : (d : Denial) → i < length ds → true ≡ hits server p (get_or ds i d) → true ≡ denied ds server p
-  hit_at d below h = sym (any_stop (hits server p) ds i d below (sym h)) ∙ so_far
-
-  pub missed_at : (d : Denial) → i < length ds → false ≡ hits server p (get_or ds i d) → denied (drop (i + 1) ds) server p ≡ denied ds server p
-  missed_at d below h = sym (any_on (hits server p) ds i d below (sym h)) ∙ so_far
-
-  pub missed_all : length ds ≤ i → false ≡ denied ds server p
-  missed_all past = sym (any_done (hits server p) ds i past) ∙ so_far

@@ -1,33 +1,19 @@
-ghost use Rattle.std.specs.Prelude.{◌≡◌, ◌||◌, IfOk, Decides};
+ghost use Rattle.std.specs.Prelude.{◌≡◌, ◌||◌, Decides};
 ghost use Rattle.chart.specs.Charts.{layout};
-ghost use Rattle.policy.specs.Reading.{inside};
-ghost use Rattle.layers.specs.Questions.{carrier_answer, verdict};
 ghost use Rattle.layers.specs.Readings.{carries, Carried};
 ghost use Rattle.layers.specs.Lawful.{carrier_lawful};
 ghost use Rattle.std.proofs.Common.{rules};
 
-use crate::questions::check_carrier;
-use crate::refusal::LayerRefusal;
 use chart::Chart;
-use policy::{Book, BookRefusal, Policy};
+use policy::{Book, BookRefusal, Policy, is_inside};
 use profile::Profile;
 use rules::RuleRecord;
 
 // A carrier, who may see all of the chart and nothing else, over any policy.
 #[derive(Drop)]
 pub struct Carrier<P> {
-    below: P,
-    carrier: Option<u16>,
-}
-
-// Whether the server and the profile lie inside the chart.
-fn is_inside(chart: &Chart, server: u16, profile: &Profile) -> bool
-    ensures { result ≡ inside (layout chart.now) server profile.now }
-{
-    server < chart.servers()
-        && chart.knows_attributes(profile.shown)
-        && chart.knows_attributes(profile.filtered)
-        && chart.knows_links(profile.path)
+    pub(crate) below: P,
+    pub(crate) carrier: Option<u16>,
 }
 
 // Whether the server is the carrier, and the profile lies inside the chart.
@@ -35,23 +21,7 @@ fn is_carried(chart: &Chart, carrier: Option<u16>, server: u16, profile: &Profil
     ensures value { result ≡ carries (layout chart.now) carrier server profile.now }
     ensures means { Decides result (Carried (layout chart.now) carrier server profile.now) }
 {
-    match carrier {
-        Some(known) => known == server && is_inside(chart, server, profile),
-        None => false,
-    }
-}
-
-// The carrier, if any, over a policy, or the refusal.
-pub(crate) fn carrying<P: Policy + Drop>(
-    below: P,
-    carrier: Option<u16>,
-) -> Result<Carrier<P>, LayerRefusal>
-    ensures answer { verdict result ≡ carrier_answer (layout (P.Policy.charted below)) carrier }
-    ensures over { IfOk result (λ d. d.below ≡ below) }
-    ensures who { IfOk result (λ d. d.carrier ≡ carrier) }
-{
-    check_carrier(below.chart(), carrier)?;
-    Ok(Carrier { below, carrier })
+    carrier == Some(server) && is_inside(chart, server, profile)
 }
 
 impl<P: Policy> Policy for Carrier<P> {

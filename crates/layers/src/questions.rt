@@ -1,9 +1,10 @@
-ghost use Rattle.std.specs.Prelude.{◌≡◌, ◌≤◌, true, length, is_ok};
+ghost use Rattle.std.specs.Prelude.{◌≡◌, IfOk};
 ghost use Rattle.chart.specs.Charts.{layout};
-ghost use Rattle.layers.specs.Questions.{denial_answer, denials_answer, carrier_answer};
+ghost use Rattle.layers.specs.Questions.{denial_answer, denials_answer, carrier_answer, verdict};
 
 use crate::denial::Denial;
 use crate::refusal::LayerRefusal;
+use arrayvec::ArrayVec;
 use chart::Chart;
 use sets::SmallSet;
 
@@ -14,7 +15,7 @@ pub fn check_denial(chart: &Chart, held: usize, denial: Denial) -> Result<(), La
     if denial.server >= chart.servers() {
         return Err(LayerRefusal::Unfit);
     }
-    if !chart.knows_attributes(denial.attributes) || denial.attributes.is_same(SmallSet::empty()) {
+    if !chart.knows_attributes(denial.attributes) || denial.attributes == SmallSet::empty() {
         return Err(LayerRefusal::Unfit);
     }
     if held >= 32 {
@@ -23,28 +24,28 @@ pub fn check_denial(chart: &Chart, held: usize, denial: Denial) -> Result<(), La
     Ok(())
 }
 
-// The questions for denials in their order.
-pub(crate) fn check_denials(chart: &Chart, denials: &[Denial]) -> Result<(), LayerRefusal>
-    ensures answer { result ≡ denials_answer (layout chart.now) denials.now }
-    ensures few { is_ok result ≡ true → length denials.now ≤ 32 }
+// The denials, if each passes its questions, in their order.
+pub(crate) fn check_denials(
+    chart: &Chart,
+    denials: &[Denial],
+) -> Result<ArrayVec<Denial, 32>, LayerRefusal>
+    ensures answer { verdict result ≡ denials_answer (layout chart.now) denials.now }
+    ensures list { IfOk result (λ held. held.items ≡ denials.now) }
 {
-    for (i, denial) in denials.iter().enumerate() {
-        check_denial(chart, i, *denial)?;
+    let mut held = ArrayVec::new();
+    for denial in denials {
+        check_denial(chart, held.len(), *denial)?;
+        held.push(*denial);
     }
-    Ok(())
+    Ok(held)
 }
 
 // The question for a carrier, if there is one.
 pub(crate) fn check_carrier(chart: &Chart, carrier: Option<u16>) -> Result<(), LayerRefusal>
     ensures { result ≡ carrier_answer (layout chart.now) carrier }
 {
-    match carrier {
-        Some(server) => {
-            if server >= chart.servers() {
-                return Err(LayerRefusal::Unfit);
-            }
-            Ok(())
-        }
-        None => Ok(()),
+    if carrier.is_some_and(|server| server >= chart.servers()) {
+        return Err(LayerRefusal::Unfit);
     }
+    Ok(())
 }

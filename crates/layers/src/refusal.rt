@@ -1,13 +1,15 @@
 ghost use Rattle.std.specs.Prelude.{◌≡◌};
 ghost use Rattle.layers.specs.Refusals.{refusal_number};
 
+use thiserror::Error;
+
 // Why a layer is refused.
-#[derive(Clone, Copy, PartialEq, Eq)]
+#[derive(Clone, Copy, Debug, PartialEq, Eq, Error)]
 pub enum LayerRefusal {
-    // a carrier or a denial that names what the chart does not have, or a denial without an attribute
-    Unfit,
-    // a 33rd denial
-    TooMany,
+    #[error("a carrier or a denial that names what the chart does not have, or a denial without an attribute")]
+    Unfit = 17,
+    #[error("a 33rd denial")]
+    TooMany = 18,
 }
 
 impl LayerRefusal {
@@ -15,9 +17,6 @@ impl LayerRefusal {
     pub fn number(self) -> u16
         ensures { result ≡ refusal_number self }
     {
-        match self {
-            LayerRefusal::Unfit => 17,
-            LayerRefusal::TooMany => 18,
-        }
+        self as u16
     }
 }

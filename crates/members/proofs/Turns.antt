@@ -1,7 +1,7 @@
 -- The turns of the table's loops.
-use Rattle.std.proofs.Common.{◌≡◌, ℕ, suc, ◌+◌, ◌-◌, ◌<◌, ◌≤◌, Bool, true, false, cond, ◌&&◌, ◌||◌, eqb, List, [], ◌∷◌, ◌++◌, map, length, get_or, take, drop, sym, refl, ap, ◌∙◌, arith}
+use Rattle.std.proofs.Common.{◌≡◌, ℕ, suc, ◌+◌, ◌-◌, ◌<◌, ◌≤◌, Bool, true, false, cond, ◌&&◌, eqb, List, [], ◌∷◌, ◌++◌, map, length, get_or, take, drop, sym, refl, ap, ◌∙◌, arith}
 use Rattle.std.specs.List.{flat_map}
-use Rattle.std.proofs.lemmas.List.{at_drop_more, at_drop_all, append_assoc, length-take-le, get_or-take, get_or_append_left, take_more, take-append-drop, take-take}
+use Rattle.std.proofs.lemmas.List.{append_assoc, length-take-le, get_or-take, get_or_append_left, take_more, take-append-drop, take-take}
 use Rattle.std.proofs.lemmas.Bool.{cond-true, cond-false, false≢true}
 use Rattle.sets.specs.Bits.{rising}
 use Rattle.chart.specs.declared.state.Chart.{Chart}
@@ -10,24 +10,10 @@ use Rattle.chart.specs.Charts.{layout}
 use Rattle.chart.proofs.Sound.{links_length}
 use Rattle.rules.specs.declared.view.View.{View}
 use Rattle.members.specs.Compose.{bridges, share_none, composes, composition, compositions}
-use Rattle.members.specs.Members.{same_view, among, with_new}
+use Rattle.members.specs.Members.{among, with_new}
 use Rattle.members.proofs.Views.{new_append, new_behind, new_longer}
 use Rattle.members.proofs.Counts.{rising_none, rising_same}
 use Rattle.members.proofs.Rank.{never_past}
-
--- looking for a view
-module _ (v : View) (vs : List View) (i : ℕ) (d : View) (below : i < length vs) (inv : among v (drop i vs) ≡ among v vs) where
-  next : (b : Bool) → b ≡ same_view v (get_or vs i d) → among v (drop i vs) ≡ (b || among v (drop (i + 1) vs))
-  next b h = at_drop_more (among v) vs i d below ∙ ap (λ t. t || among v (drop (i + 1) vs)) (sym h)
-
-  pub among_found : true ≡ same_view v (get_or vs i d) → true ≡ among v vs
-  among_found h = sym (next true h) ∙ inv
-
-  pub among_next : false ≡ same_view v (get_or vs i d) → among v (drop (i + 1) vs) ≡ among v vs
-  among_next h = sym (next false h) ∙ inv
-
-pub among_done : (v : View) (vs : List View) (i : ℕ) → length vs ≤ i → among v (drop i vs) ≡ among v vs → false ≡ among v vs
-among_done v vs i past inv = sym (at_drop_all (among v) vs i past) ∙ inv
 
 -- one view more
 pub new_there : (v : View) (xs : List View) → true ≡ among v xs → xs ≡ with_new xs (v ∷ [])
@@ -169,7 +155,3 @@ row_same f T n i d below =
 pub row_is : (f : View → View → List View) (T : List View) (n i : ℕ) (d : View) → i < n → (V : List View)
     → V ≡ with_new (take n T) (flat_map (f (get_or T i d)) (take i T)) → V ≡ with_new (take n T) (flat_map (f (get_or (take n T) i d)) (take i (take n T)))
 row_is f T n i d below V e = e ∙ row_same f T n i d below
-
--- the front of a table, where ways meet
-pub front_is : {T U : List View} {n m : ℕ} (xs : List View) → n ≡ m → T ≡ U → take m U ≡ xs → take n T ≡ xs
-front_is {T} {U} {n} {m} xs counts tables e = ap (λ k. take k T) counts ∙ ap (take m) tables ∙ e

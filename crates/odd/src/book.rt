@@ -11,7 +11,7 @@ ghost use Rattle.odd.specs.LooseLaws.{loose_lawful};
 ghost use Rattle.policy.proofs.Orders.{same_length};
 
 use chart::Chart;
-use policy::{Book, BookRefusal, Policy};
+use policy::{Book, BookRefusal, Policy, is_inside};
 use profile::Profile;
 use rules::{Rule, RuleRecord, check_rule};
 
@@ -23,88 +23,14 @@ pub struct SingleRuleBook {
     ghost formed: { all_of (well_formed (layout chart)) (rules_of rule) ≡ true },
 }
 
-// Whether the server and the profile lie inside the chart.
-fn is_inside(chart: &Chart, server: u16, profile: &Profile) -> bool
-    ensures { result ≡ inside (layout chart.now) server profile.now }
-{
-    server < chart.servers()
-        && chart.knows_attributes(profile.shown)
-        && chart.knows_attributes(profile.filtered)
-        && chart.knows_links(profile.path)
-}
-
 // Whether the rule, if there is one, lets the server see the profile.
 fn lets(rule: &Option<Rule>, server: u16, profile: &Profile) -> bool
     ensures { result ≡ any_of (rule_lets server profile.now) (rules_of rule.now) }
 {
-    match rule {
-        Some(rule) => {
-            let view = rule.given.view;
-            view.server == server && profile.shown.is_subset(view.attributes)
-        }
-        None => false,
-    }
-}
-
-// Puts a rule in, unless one is there.
-fn put(slot: &mut Option<Rule>, rule: Rule) -> Result<(), BookRefusal>
-    ensures answer { result ≡ place_answer one_fits (rules_of slot.old) rule.given }
-    ensures after { rules_of slot.new ≡ rules_after result (rules_of slot.old) (rule.given ∷ rules_of slot.old) }
-    ensures formed { (l : Layout) → all_of (well_formed l) (rules_of slot.old) ≡ true → well_formed l rule.given ≡ true → all_of (well_formed l) (rules_of slot.new) ≡ true }
-{
-    match *slot {
-        Some(held) => {
-            if held.given.number == rule.given.number {
-                Err(BookRefusal::InForce)
-            } else {
-                Err(BookRefusal::Full)
-            }
-        }
-        None => {
-            *slot = Some(rule);
-            Ok(())
-        }
-    }
-}
-
-// Checks a rule on the chart, and puts it in unless one is there.
-fn enter_rule(chart: &Chart, slot: &mut Option<Rule>, given: RuleRecord) -> Result<(), BookRefusal>
-    requires { all_of (well_formed (layout chart.now)) (rules_of slot.old) ≡ true }
-    ensures answer { result ≡ entry_answer (layout chart.now) one_fits (rules_of slot.old) given }
-    ensures after { Same (rules_of slot.new) (entry_list (layout chart.now) one_fits (rules_of slot.old) given) }
-    ensures formed { all_of (well_formed (layout chart.now)) (rules_of slot.new) ≡ true }
-{
-    match check_rule(chart, given) {
-        Ok(rule) => put(slot, rule),
-        Err(refusal) => Err(BookRefusal::Rule(refusal)),
-    }
-}
-
-// Takes the rule out, if it has this number.
-fn take(slot: &mut Option<Rule>, number: u16) -> Result<(), BookRefusal>
-    ensures answer { result ≡ withdrawal_answer (rules_of slot.old) number }
-    ensures after { rules_of slot.new ≡ withdrawal_list (rules_of slot.old) number }
-    ensures formed { (l : Layout) → all_of (well_formed l) (rules_of slot.old) ≡ true → all_of (well_formed l) (rules_of slot.new) ≡ true }
-{
-    match *slot {
-        Some(held) => {
-            if held.given.number != number {
-                return Err(BookRefusal::NotInForce);
-            }
-            *slot = None;
-            Ok(())
-        }
-        None => Err(BookRefusal::NotInForce),
-    }
-}
-
-// The same, with the rules after it up to their order, as every book says it.
-fn take_rule(slot: &mut Option<Rule>, number: u16) -> Result<(), BookRefusal>
-    ensures answer { result ≡ withdrawal_answer (rules_of slot.old) number }
-    ensures after { Same (rules_of slot.new) (withdrawal_list (rules_of slot.old) number) }
-    ensures formed { (l : Layout) → all_of (well_formed l) (rules_of slot.old) ≡ true → all_of (well_formed l) (rules_of slot.new) ≡ true }
-{
-    take(slot, number)
+    rule.is_some_and(|rule| {
+        let view = rule.given.view;
+        view.server == server && profile.shown.is_subset(view.attributes)
+    })
 }
 
 impl SingleRuleBook {
@@ -145,10 +71,24 @@ impl Book for SingleRuleBook {
     ghost alike = { λ s xs ys h. ap (λ n. nat_le n 1) (same_length h) };
 
     fn enter(&mut self, given: RuleRecord) -> Result<(), BookRefusal> {
-        enter_rule(&self.chart, &mut self.rule, given)
+        let rule = check_rule(&self.chart, given)?;
+        match self.rule {
+            Some(held) if held.given.number == rule.given.number => Err(BookRefusal::InForce),
+            Some(_) => Err(BookRefusal::Full),
+            None => {
+                self.rule = Some(rule);
+                Ok(())
+            }
+        }
     }
 
     fn withdraw(&mut self, number: u16) -> Result<(), BookRefusal> {
-        take_rule(&mut self.rule, number)
+        match self.rule {
+            Some(held) if held.given.number == number => {
+                self.rule = None;
+                Ok(())
+            }
+            _ => Err(BookRefusal::NotInForce),
+        }
     }
 }

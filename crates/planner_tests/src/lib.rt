@@ -19,13 +19,9 @@ mod tests {
     use tariff::{ByteTariff, GradeTariff};
 
     fn set(members: &[u16]) -> SmallSet {
-        let mut all = SmallSet::empty();
-        for i in members {
-            if let Some(more) = all.insert(*i) {
-                all = more;
-            }
-        }
-        all
+        members
+            .iter()
+            .fold(SmallSet::empty(), |all, i| all.insert(*i).unwrap_or(all))
     }
 
     fn leaf(relation: u16) -> Node {
@@ -62,12 +58,7 @@ mod tests {
 
     // Buffers whose places are of server 77, which no chart has.
     fn unwritten() -> Buffers {
-        let none = SmallSet::empty();
-        let profile = Profile {
-            shown: none,
-            path: none,
-            filtered: none,
-        };
+        let profile = Profile::default();
         let mode = Mode::LeftSemi;
         let place = Place {
             price: 0,
@@ -86,56 +77,26 @@ mod tests {
         }
     }
 
-    // How many places of the work table are not of server 77.
-    fn places_written(work: &[Option<Place<u32>>]) -> u16 {
-        let mut count = 0u16;
-        for place in work {
-            let old = match place {
-                Some(known) => known.other == 77,
-                None => false,
-            };
-            if !old {
-                count = count.wrapping_add(1);
-            }
-        }
-        count
-    }
-
-    fn steps_written(plan: &[Step]) -> u16 {
-        let mut count = 0u16;
-        for step in plan {
-            if step.executor != 77 {
-                count = count.wrapping_add(1);
-            }
-        }
-        count
-    }
-
-    fn releases_written(releases: &[Release]) -> u16 {
-        let mut count = 0u16;
-        for release in releases {
-            if release.sender != 77 {
-                count = count.wrapping_add(1);
-            }
-        }
-        count
-    }
-
     // How many places of each buffer are not of server 77.
-    fn written(b: &Buffers) -> (u16, u16, u16) {
+    fn written(b: &Buffers) -> (usize, usize, usize) {
         (
-            places_written(&b.work),
-            steps_written(&b.plan),
-            releases_written(&b.releases),
+            b.work
+                .iter()
+                .filter(|place| !place.is_some_and(|known| known.other == 77))
+                .count(),
+            b.plan.iter().filter(|step| step.executor != 77).count(),
+            b.releases
+                .iter()
+                .filter(|release| release.sender != 77)
+                .count(),
         )
     }
 
     // Executor, price and release count of a plan, or number and place of a refusal.
     fn numbers(answer: Result<Planned<u32>, QueryRefusal>) -> Result<(u16, u32, u16), (u16, u16)> {
-        match answer {
-            Ok(planned) => Ok((planned.executor, planned.price, planned.releases)),
-            Err(refusal) => Err((refusal.number(), refusal.place())),
-        }
+        answer
+            .map(|planned| (planned.executor, planned.price, planned.releases))
+            .map_err(|refusal| (refusal.number(), refusal.place()))
     }
 
     // Plans a query in bytes.
@@ -167,22 +128,14 @@ mod tests {
 
     // Three servers with a relation each (attributes 0 to 2, 3 and 4, 5 and 6), and links 0 = 3 and 3 = 5.
     fn worked() -> Result<Chart, Fail> {
-        match sample_chart() {
-            Ok(chart) => Ok(chart),
-            Err(_) => Err(Fail::new("no chart")),
-        }
+        sample_chart().map_err(|_| Fail::new("no chart"))
     }
 
     // Number and place of a refusal, and how many places of the buffers it wrote.
-    fn refused<P: Policy>(policy: &P, nodes: [Node; 4]) -> (u16, u16, u16) {
+    fn refused<P: Policy>(policy: &P, nodes: [Node; 4]) -> ((u16, u16), (usize, usize, usize)) {
         let mut lent = unwritten();
         let answer = ask(policy, &nodes, &mut lent);
-        let (work, plan, releases) = written(&lent);
-        let all = work.wrapping_add(plan).wrapping_add(releases);
-        match answer {
-            Ok(_) => (0, 0, all),
-            Err((number, place)) => (number, place, all),
-        }
+        (answer.err().unwrap_or((0, 0)), written(&lent))
     }
 
     #[test]
@@ -207,7 +160,7 @@ mod tests {
             ([a, b, join(0, 1, 1), c], 34, 2),
             ([a, project(0, &[1]), b, join(1, 2, 0)], 34, 3),
         ] {
-            assert_eq!(rt; refused(&policy, nodes), (number, place, 0));
+            assert_eq!(rt; refused(&policy, nodes), ((number, place), (0, 0, 0)));
         }
         Ok(())
     }
@@ -310,10 +263,9 @@ mod tests {
             &mut lent.plan,
             &mut lent.releases,
         );
-        match answer {
-            Ok(planned) => (lent.plan[2].mode.number(), planned.releases),
-            Err(_) => (99, 0),
-        }
+        answer.map_or((99, 0), |planned| {
+            (lent.plan[2].mode.number(), planned.releases)
+        })
     }
 
     // By grade, sending the whole table and a semi-join cost the same: the earlier mode stands. Without the rule for the
@@ -362,10 +314,8 @@ mod tests {
 
     // With no rule, and server 0 as carrier.
     fn ask_carried(chart: Chart, nodes: &[Node]) -> Result<(u16, u32, u16), (u16, u16)> {
-        match Carrier::new(ExactBook::new(chart), Some(0)) {
-            Ok(policy) => ask(&policy, nodes, &mut unwritten()),
-            Err(_) => Err((0, 0)),
-        }
+        let carried = Carrier::new(ExactBook::new(chart), Some(0)).map_err(|_| (0, 0))?;
+        ask(&carried, nodes, &mut unwritten())
     }
 
     // Of the first nodes of the long query, at two servers: the answer without a rule, and with server 0 as carrier.

@@ -6,7 +6,7 @@ mod prices;
 
 use crate::cases::{Cases, sample_cases};
 use crate::prices::Shown;
-use anyhow::anyhow;
+use anyhow::Context;
 use assignments::{Mode, Place, Release, Step};
 use books::SealedList;
 use chart::{Chart, Grade};
@@ -17,7 +17,6 @@ use profile::Profile;
 use queries::Node;
 use rules::RuleRecord;
 use sample::{ProfileText, sample_chart};
-use sets::SmallSet;
 use tariff::{ByteTariff, GradeTariff};
 
 // The first releases.
@@ -49,16 +48,10 @@ fn show_plan(
 
 // A release that is in no plan, for places that are not written yet.
 fn no_release() -> Release {
-    let none = SmallSet::empty();
-    let profile = Profile {
-        shown: none,
-        path: none,
-        filtered: none,
-    };
     Release {
         sender: 0,
         receiver: 0,
-        profile,
+        profile: Profile::default(),
     }
 }
 
@@ -128,10 +121,7 @@ fn show_denied<P: Policy + Drop>(
     denial: Denial,
     nodes: &[Node],
 ) -> anyhow::Result<()> {
-    let Ok(denied) = Denials::new(below, &[denial]) else {
-        return Err(anyhow!("the denial was refused"));
-    };
-    show_both(rt, &denied, nodes)
+    show_both(rt, &Denials::new(below, &[denial])?, nodes)
 }
 
 // With a carrier.
@@ -141,10 +131,7 @@ fn show_carried<P: Policy + Drop>(
     carrier: u16,
     nodes: &[Node],
 ) -> anyhow::Result<()> {
-    let Ok(carried) = Carrier::new(below, Some(carrier)) else {
-        return Err(anyhow!("the carrier was refused"));
-    };
-    show_both(rt, &carried, nodes)
+    show_both(rt, &Carrier::new(below, Some(carrier))?, nodes)
 }
 
 fn show_layers(rt: &HostRuntime, chart: Chart, cases: &Cases) -> anyhow::Result<()> {
@@ -157,15 +144,9 @@ fn show_layers(rt: &HostRuntime, chart: Chart, cases: &Cases) -> anyhow::Result<
 }
 
 fn main(rt: HostRuntime) -> anyhow::Result<()> {
-    let Ok(mut chart) = sample_chart() else {
-        return Err(anyhow!("the chart was refused"));
-    };
-    let Ok(()) = chart.set_grade(0, 1, Grade::Quay) else {
-        return Err(anyhow!("the line was refused"));
-    };
-    let Some(cases) = sample_cases() else {
-        return Err(anyhow!("a set was refused"));
-    };
+    let mut chart = sample_chart()?;
+    chart.set_grade(0, 1, Grade::Quay)?;
+    let cases = sample_cases().context("a set was refused")?;
     show_lists(&rt, chart, &cases)?;
     show_layers(&rt, chart, &cases)?;
     println!(rt; "relation 0 alone, no rule")?;

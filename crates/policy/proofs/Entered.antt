@@ -40,6 +40,9 @@ module _ (l : Layout) (fits : List RuleRecord → Bool) (rules : List RuleRecord
   pub refusal_is : (e : RuleRefusal) → Err e ≡ rule_answer l given → Err (Rule e) ≡ entry_answer l fits rules given
   refusal_is e h = ap (λ o. own_first o (place_answer fits rules given)) h
 
+  -- a refusal leaves the rules as they were
+  pub refused_after : (e : BookRefusal) → Err e ≡ entry_answer l fits rules given → Same rules (entry_list l fits rules given)
+  refused_after e h = subst (λ (a : Result (Unit {0}) BookRefusal). Same rules (rules_after a rules (given ∷ rules))) h (same_refl rules)
+
   pub refusal_after : (e : RuleRefusal) → Err e ≡ rule_answer l given → Same rules (entry_list l fits rules given)
-  refusal_after e h =
-      subst (λ (a : Result (Unit {0}) BookRefusal). Same rules (rules_after a rules (given ∷ rules))) (refusal_is e h) (same_refl rules)
+  refusal_after e h = refused_after (Rule e) (refusal_is e h)

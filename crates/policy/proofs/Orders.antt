@@ -1,5 +1,5 @@
 -- What does not depend on the order of a list.
-use Rattle.std.proofs.Common.{◌≡◌, ℕ, suc, Bool, true, false, cond, not, ◌&&◌, ◌||◌, eqb, List, [], ◌∷◌, map, length, filter, refl, ap, ◌∙◌, arith}
+use Rattle.std.proofs.Common.{◌≡◌, ℕ, suc, Bool, true, false, cond, not, ◌&&◌, ◌||◌, eqb, List, [], ◌∷◌, map, length, filter, refl, ap, ◌∙◌, subst, arith}
 use Rattle.std.proofs.lemmas.Bool.Decides.{nat_tests}
 use Rattle.chart.specs.Layout.{all_of, any_of}
 use Rattle.profile.specs.declared.shape.Profile.{Profile}
@@ -11,6 +11,9 @@ use Rattle.policy.specs.Books.{in_force, apart}
 pub same_refl : {X : Type 0} (xs : List X) → Same xs xs
 same_refl [] = done
 same_refl (x ∷ xs) = keep x (same_refl xs)
+
+pub same_equal : {X : Type 0} {xs ys : List X} → xs ≡ ys → Same xs ys
+same_equal {xs} e = subst (Same xs) e (same_refl xs)
 
 pub same_sym : {X : Type 0} {xs ys : List X} → Same xs ys → Same ys xs
 same_sym done = done

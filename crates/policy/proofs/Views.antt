@@ -1,7 +1,6 @@
 -- The exact reading of views that are held one by one.
-use Rattle.std.proofs.Common.{◌≡◌, ℕ, ◌+◌, ◌<◌, ◌≤◌, Bool, true, false, ◌||◌, List, [], ◌∷◌, ◌++◌, length, get_or, drop, sym, refl, ap, ◌∙◌}
-use Rattle.std.specs.List.{flat_map}
-use Rattle.std.proofs.lemmas.List.{at_drop_more, at_drop_all}
+use Rattle.std.proofs.Common.{◌≡◌, ℕ, Bool, true, false, ◌||◌, List, [], ◌∷◌, ◌++◌, sym, refl, ap, ◌∙◌}
+use Rattle.std.specs.List.{flat_map, list_any}
 use Rattle.chart.specs.Layout.{any_of}
 use Rattle.profile.specs.declared.shape.Profile.{Profile}
 use Rattle.rules.specs.declared.view.View.{View}
@@ -15,18 +14,13 @@ any_append p (x ∷ xs) ys = go (p x) (any_append p xs ys)
     go true rest = refl
     go false rest = rest
 
-module _ {T : Type 0} (views : T → List View) (items : List T) (server : ℕ) (p : Profile) (i : ℕ) where
-  step : (x : T) → i < length items → x ≡ get_or items i x → exact (flat_map views (drop i items)) server p ≡ (exact (views x) server p || exact (flat_map views (drop (i + 1) items)) server p)
-  step x below read =
-      at_drop_more (λ ys. exact (flat_map views ys) server p) items i x below
-      ∙ ap (λ y. exact (views y ++ flat_map views (drop (i + 1) items)) server p) (sym read)
-      ∙ any_append (view_lets server p) (views x) (flat_map views (drop (i + 1) items))
+pub any_listed : {X : Type 0} (p : X → Bool) (xs : List X) → list_any p xs ≡ any_of p xs
+any_listed p [] = refl
+any_listed p (x ∷ xs) = ap (λ b. p x || b) (any_listed p xs)
 
-  pub reads_stop : (x : T) → i < length items → x ≡ get_or items i x → exact (views x) server p ≡ true → exact (flat_map views (drop i items)) server p ≡ true
-  reads_stop x below read h = step x below read ∙ ap (λ b. b || exact (flat_map views (drop (i + 1) items)) server p) h
-
-  pub reads_on : (x : T) → i < length items → x ≡ get_or items i x → exact (views x) server p ≡ false → exact (flat_map views (drop i items)) server p ≡ exact (flat_map views (drop (i + 1) items)) server p
-  reads_on x below read h = step x below read ∙ ap (λ b. b || exact (flat_map views (drop (i + 1) items)) server p) h
-
-  pub reads_done : length items ≤ i → exact (flat_map views (drop i items)) server p ≡ false
-  reads_done past = at_drop_all (λ ys. exact (flat_map views ys) server p) items i past
+-- some item's views let the server see it, or the views of all items do
+pub exact_held : {T : Type 0} (views : T → List View) (items : List T) (server : ℕ) (p : Profile) → list_any (λ x. exact (views x) server p) items ≡ exact (flat_map views items) server p
+exact_held views [] server p = refl
+exact_held views (x ∷ items) server p =
+    ap (λ b. exact (views x) server p || b) (exact_held views items server p)
+    ∙ sym (any_append (view_lets server p) (views x) (flat_map views items))

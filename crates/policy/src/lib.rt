@@ -5,6 +5,6 @@ mod reading;
 mod refusal;
 mod traits;
 
-pub use reading::{Viewed, some_view_allows, view_allows};
+pub use reading::{Viewed, is_inside, some_view_allows, view_allows};
 pub use refusal::BookRefusal;
 pub use traits::{Book, Policy};

@@ -1,10 +1,12 @@
 ghost use Rattle.std.specs.Prelude.{◌≡◌, List, [], ◌∷◌};
 ghost use Rattle.std.specs.List.{flat_map};
 ghost use Rattle.std.specs.Option.{option_to_list};
+ghost use Rattle.chart.specs.Charts.{layout};
 ghost use Rattle.rules.specs.declared.view.View.{View};
-ghost use Rattle.policy.specs.Reading.{view_lets, exact};
+ghost use Rattle.policy.specs.Reading.{view_lets, exact, inside};
 ghost use Rattle.policy.specs.Viewed.{slot_views};
 
+use chart::Chart;
 use profile::Profile;
 use rules::{Rule, RuleRecord, View};
 
@@ -36,10 +38,7 @@ impl Viewed for Option<Rule> {
     ghost views = { slot_views };
 
     fn view(&self) -> Option<View> {
-        match self {
-            Some(rule) => Some(rule.given.view),
-            None => None,
-        }
+        self.map(|rule| rule.given.view)
     }
 }
 
@@ -48,7 +47,7 @@ pub fn view_allows(view: &View, server: u16, profile: &Profile) -> bool
     ensures { result ≡ view_lets server profile.now view.now }
 {
     view.server == server
-        && view.path.is_same(profile.path)
+        && view.path == profile.path
         && profile
             .shown
             .union(profile.filtered)
@@ -59,27 +58,23 @@ pub fn view_allows(view: &View, server: u16, profile: &Profile) -> bool
 fn item_allows<T: Viewed>(item: &T, server: u16, profile: &Profile) -> bool
     ensures { result ≡ exact (T.Viewed.views item.now) server profile.now }
 {
-    match item.view() {
-        Some(view) => view_allows(&view, server, profile),
-        None => false,
-    }
+    item.view()
+        .is_some_and(|view| view_allows(&view, server, profile))
 }
 
 // Whether some item holds a view that lets a server see a profile.
-fn some_item_allows<T: Viewed>(items: &[T], server: u16, profile: &Profile) -> bool
-    ensures { result ≡ exact (flat_map T.Viewed.views items.now) server profile.now }
-{
-    for item in items {
-        if item_allows(item, server, profile) {
-            return true;
-        }
-    }
-    false
-}
-
-// Whether some view lets a server see a profile.
 pub fn some_view_allows<T: Viewed>(items: &[T], server: u16, profile: &Profile) -> bool
     ensures { result ≡ exact (flat_map T.Viewed.views items.now) server profile.now }
 {
-    some_item_allows(items, server, profile)
+    items.iter().any(|item| item_allows(item, server, profile))
+}
+
+// Whether the server and the profile lie inside the chart.
+pub fn is_inside(chart: &Chart, server: u16, profile: &Profile) -> bool
+    ensures { result ≡ inside (layout chart.now) server profile.now }
+{
+    server < chart.servers()
+        && chart.knows_attributes(profile.shown)
+        && chart.knows_attributes(profile.filtered)
+        && chart.knows_links(profile.path)
 }

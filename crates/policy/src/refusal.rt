@@ -1,18 +1,21 @@
 ghost use Rattle.std.specs.Prelude.{◌≡◌};
 ghost use Rattle.policy.specs.Refusals.{refusal_number};
+ghost use Rattle.policy.specs.declared.refusal.BookRefusal.TheVariants.{Rule};
 
 use rules::RuleRefusal;
+use thiserror::Error;
 
 // Why a book refuses an entry or a withdrawal.
-#[derive(Clone, Copy)]
+#[derive(Clone, Copy, Debug, PartialEq, Eq, Error)]
 pub enum BookRefusal {
     // the rule does not pass its own questions
+    #[error(transparent)]
     Rule(RuleRefusal),
-    // its number is in force already
+    #[error("its number is in force already")]
     InForce,
-    // the rules with this one do not fit
+    #[error("the rules with this one do not fit")]
     Full,
-    // the number to withdraw is not in force
+    #[error("the number to withdraw is not in force")]
     NotInForce,
 }
 
@@ -27,5 +30,13 @@ impl BookRefusal {
             BookRefusal::Full => 25,
             BookRefusal::NotInForce => 26,
         }
+    }
+}
+
+impl From<RuleRefusal> for BookRefusal {
+    ghost from_gives = { λ refusal answer. answer ≡ Rule refusal };
+
+    fn from(refusal: RuleRefusal) -> Self {
+        Self::Rule(refusal)
     }
 }

@@ -23,33 +23,22 @@ mod tests {
         }
     }
 
+    // The set with a number too; a number that no set has is passed over.
+    fn with(set: SmallSet, i: u16) -> SmallSet {
+        set.insert(i).unwrap_or(set)
+    }
+
     // The set at a place, from 0, of a text such as "0,4; 0; -".
-    fn part(text: &str, place: u16) -> SmallSet {
-        let mut set = SmallSet::empty();
-        let mut at = 0u16;
-        for b in text.as_bytes() {
-            if *b == b';' {
-                at = at.wrapping_add(1);
-            } else if at == place
-                && let Some(more) = set.insert(digit(*b))
-            {
-                set = more;
-            }
-        }
-        set
+    fn part(text: &str, place: usize) -> SmallSet {
+        let named = text.split(';').nth(place).unwrap_or("");
+        named.bytes().map(digit).fold(SmallSet::empty(), with)
     }
 
     // The set of the numbers below 12 whose bits are set.
     fn from_bits(bits: u16) -> SmallSet {
-        let mut set = SmallSet::empty();
-        for i in 0..12u16 {
-            if (bits >> i) & 1 == 1
-                && let Some(more) = set.insert(i)
-            {
-                set = more;
-            }
-        }
-        set
+        (0..12)
+            .filter(|i| (bits >> *i) & 1 == 1)
+            .fold(SmallSet::empty(), with)
     }
 
     fn record(number: u16, server: u16, attributes: SmallSet, path: SmallSet) -> RuleRecord {
@@ -85,26 +74,19 @@ mod tests {
 
     // Whether two policies answer alike: servers below 4, links below 3, attributes below 12.
     fn alike<P: Policy, Q: Policy>(a: &P, b: &Q) -> bool {
-        let mut same = true;
-        for bits in 0..32768u16 {
+        (0..32768).all(|bits| {
             let profile = Profile {
                 shown: from_bits(bits % 4096),
                 path: from_bits(bits / 4096),
                 filtered: SmallSet::empty(),
             };
-            for server in 0..4u16 {
-                same = same && a.allows(server, &profile) == b.allows(server, &profile);
-            }
-        }
-        same
+            (0..4).all(|server| a.allows(server, &profile) == b.allows(server, &profile))
+        })
     }
 
     // 0 for an accepted call, else the number of the refusal.
     fn code(answer: Result<(), BookRefusal>) -> u16 {
-        match answer {
-            Ok(()) => 0,
-            Err(refusal) => refusal.number(),
-        }
+        answer.err().map_or(0, |refusal| refusal.number())
     }
 
     fn enter<B: Book>(book: &mut B, given: RuleRecord) -> u16 {
@@ -116,10 +98,7 @@ mod tests {
     }
 
     fn layer_code<L: Drop>(answer: Result<L, LayerRefusal>) -> u16 {
-        match answer {
-            Ok(_) => 0,
-            Err(refusal) => refusal.number(),
-        }
+        answer.err().map_or(0, |refusal| refusal.number())
     }
 
     // Three servers with a relation each (attributes 0 to 2, 3 and 4, 5 and 6), and two links.
@@ -350,10 +329,9 @@ mod tests {
 
     // The number of the first refused record and of its refusal, or zeros.
     fn first_fault(chart: &Chart, records: &[RuleRecord]) -> (u16, u16) {
-        match SealedList::check(chart, records) {
-            Ok(()) => (0, 0),
-            Err(fault) => (fault.number, fault.refusal.number()),
-        }
+        SealedList::check(chart, records)
+            .err()
+            .map_or((0, 0), |fault| (fault.number, fault.refusal.number()))
     }
 
     #[test]
@@ -491,10 +469,7 @@ mod tests {
         let Ok(carried) = Carrier::new(book, Some(carrier)) else {
             return Err(Fail::new("no carrier"));
         };
-        match Denials::new(carried, &[deny(2, "0,3")]) {
-            Ok(guarded) => Ok(guarded),
-            Err(_) => Err(Fail::new("no denials")),
-        }
+        Denials::new(carried, &[deny(2, "0,3")]).map_err(|_| Fail::new("no denials"))
     }
 
     // The upper layer has the last word.

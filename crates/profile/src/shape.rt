@@ -21,8 +21,7 @@ impl Profile {
         chart.server_of(relation)?;
         Some(Profile {
             shown: chart.attributes_of(relation),
-            path: SmallSet::empty(),
-            filtered: SmallSet::empty(),
+            ..Profile::default()
         })
     }
 
@@ -32,8 +31,7 @@ impl Profile {
     {
         Profile {
             shown: attributes,
-            path: self.path,
-            filtered: self.filtered,
+            ..self
         }
     }
 
@@ -42,9 +40,8 @@ impl Profile {
         ensures { result ≡ filter self attributes }
     {
         Profile {
-            shown: self.shown,
-            path: self.path,
             filtered: self.filtered.union(attributes),
+            ..self
         }
     }
 }

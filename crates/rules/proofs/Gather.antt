@@ -1,28 +1,30 @@
--- The union of a function over the members of a set, collected one by one.
-use Rattle.std.proofs.Common.{◌≡◌, ℕ, ◌+◌, ◌<◌, ◌≤◌, true, false, ◌⊎◌, ◌∷◌, sym, ap, ◌∙◌, inl, inr}
-use Rattle.std.proofs.lemmas.Bool.{cond-true, cond-false}
+-- A set that is collected from sets, one for each number of a set.
+use Rattle.std.proofs.Common.{◌≡◌, ℕ, List, [], ◌∷◌, sym, refl, ap, ◌∙◌}
+use denote.Param.Members.{Mut}
+use Rattle.std.specs.Fn.{Called}
+use Rattle.std.specs.Iterator.{YieldsFirst, FoldsItems}
+use Rattle.std.specs.List.{fold}
+use Rattle.std.proofs.lemmas.Iterator.Consumers.{fold_from_yields_List, YieldsList-from_first}
 use Rattle.sets.specs.declared.small_set.SmallSet.{SmallSet}
-use Rattle.sets.specs.Sets.{has, union, members_from}
-use Rattle.sets.proofs.Sets.{union_assoc, union_none, members_step, members_past}
+use Rattle.sets.specs.declared.elements.Elements.{Elements}
+use Rattle.sets.specs.Elements.{rest}
+use Rattle.sets.specs.Sets.{none, union}
+use Rattle.sets.proofs.Sets.{union_assoc, union_none, union_comm}
 use Rattle.rules.specs.Relations.{gather}
 
-module _ (f : ℕ → SmallSet) (s : SmallSet) (i : ℕ) (found : SmallSet) where
-  -- one more member, and one number that is none
-  pub gather_took : i < 64 → has s i ≡ true → union (union found (f i)) (gather f (members_from s (i + 1))) ≡ union found (gather f (members_from s i))
-  gather_took below h =
-      union_assoc found (f i) (gather f (members_from s (i + 1)))
-      ∙ ap (λ xs. union found (gather f xs)) (sym (members_step s i below ∙ cond-true (has s i) (i ∷ members_from s (i + 1)) (members_from s (i + 1)) h))
+fold_gather : (f : ℕ → SmallSet) (from : SmallSet) (xs : List ℕ) → fold (λ found x. union found (f x)) from xs ≡ union from (gather f xs)
+fold_gather f from [] = sym (union_none from)
+fold_gather f from (x ∷ xs) = fold_gather f (union from (f x)) xs ∙ union_assoc from (f x) (gather f xs)
 
-  pub gather_passed : i < 64 → has s i ≡ false → union found (gather f (members_from s (i + 1))) ≡ union found (gather f (members_from s i))
-  gather_passed below h =
-      ap (λ xs. union found (gather f xs)) (sym (members_step s i below ∙ cond-false (has s i) (i ∷ members_from s (i + 1)) (members_from s (i + 1)) h))
+-- a fold over a set's numbers, whose closure adds what f gives for each
+pub gathered : {F : Type 0} (g : Mut F (SmallSet × (ℕ × Unit {0})) SmallSet) (f : ℕ → SmallSet) (numbers : Elements) (call : F) (from found : SmallSet)
+    → FoldsItems (YieldsFirst rest) g numbers call from found
+    → ((s : SmallSet) (x : ℕ) (t : SmallSet) (q : F) → Called g call (s, (x, tt)) t q → (q ≡ call) × (t ≡ union s (f x)))
+    → found ≡ union from (gather f (rest numbers))
+gathered g f numbers call from found ran adds =
+    fold_from_yields_List g (λ s x. union s (f x)) from found ran (YieldsList-from_first (λ x. x) rest (rest numbers) refl) adds
+    ∙ fold_gather f from (rest numbers)
 
-  pub gather_done : 64 ≤ i → union found (gather f (members_from s i)) ≡ found
-  gather_done past = ap (λ xs. union found (gather f xs)) (members_past s i past) ∙ union_none found
-
--- one turn of a loop that collects: it took a member, or passed over a number that is none
-pub gather_turn : (f : ℕ → SmallSet) (s : SmallSet) (i : ℕ) (found next : SmallSet) → i < 64
-    → ((has s i ≡ true) × (next ≡ union found (f i))) ⊎ ((has s i ≡ false) × (next ≡ found))
-    → union next (gather f (members_from s (i + 1))) ≡ union found (gather f (members_from s i))
-gather_turn f s i found next below (inl w) = ap (λ t. union t (gather f (members_from s (i + 1)))) w.1 ∙ gather_took f s i found below w.0
-gather_turn f s i found next below (inr w) = ap (λ t. union t (gather f (members_from s (i + 1)))) w.1 ∙ gather_passed f s i found below w.0
+-- from the empty set on
+pub gathered_all : (f : ℕ → SmallSet) (xs : List ℕ) (from found : SmallSet) → found ≡ union from (gather f xs) → from ≡ none → found ≡ gather f xs
+gathered_all f xs from found whole empty = whole ∙ ap (λ s. union s (gather f xs)) empty ∙ union_comm none (gather f xs) ∙ union_none (gather f xs)

@@ -11,6 +11,7 @@ use chart::Chart;
 use sets::SmallSet;
 
 // Whether the links of a view are known, and its path joins its relations into one tree.
+#[tactic(auto, unfolding(crate::specs::Rules::path_joins))]
 fn is_joined(chart: &Chart, view: View) -> bool
     ensures { result ≡ path_joins (layout chart.now) view }
 {
@@ -23,13 +24,13 @@ pub fn check_rule(chart: &Chart, given: RuleRecord) -> Result<Rule, RuleRefusal>
     ensures passed { IfOk result (λ rule. well_formed (layout chart.now) rule.given ≡ true) }
 {
     let view = given.view;
-    if given.number < 1 || given.number > 999 {
+    if !(1..=999).contains(&given.number) {
         return Err(RuleRefusal::Number);
     }
     if view.server >= chart.servers() {
         return Err(RuleRefusal::Server);
     }
-    if !chart.knows_attributes(view.attributes) || view.attributes.is_same(SmallSet::empty()) {
+    if !chart.knows_attributes(view.attributes) || view.attributes == SmallSet::empty() {
         return Err(RuleRefusal::Attributes);
     }
     if !is_joined(chart, view) {

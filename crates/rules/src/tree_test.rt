@@ -24,13 +24,7 @@ fn crossed(chart: &Chart, link: u16, from: SmallSet) -> SmallSet
 fn spread_once(chart: &Chart, path: SmallSet, from: SmallSet) -> SmallSet
     ensures { result ≡ spread (layout chart.now) path from }
 {
-    let mut found = from;
-    for k in 0..64 {
-        if path.contains(k) {
-            found = found.union(crossed(chart, k, from));
-        }
-    }
-    found
+    path.elements().fold(from, |found, link| found.union(crossed(chart, link, from)))
 }
 
 // All that is reached over the path from a set of relations: it stops where a round adds nothing.
@@ -40,7 +34,7 @@ fn flood(chart: &Chart, path: SmallSet, from: SmallSet) -> SmallSet
     let mut reached = from;
     for _round in 0..64u16 {
         let next = spread_once(chart, path, reached);
-        if next.is_same(reached) {
+        if next == reached {
             return reached;
         }
         reached = next;
@@ -52,13 +46,9 @@ fn flood(chart: &Chart, path: SmallSet, from: SmallSet) -> SmallSet
 fn is_connected(chart: &Chart, path: SmallSet, all: SmallSet) -> bool
     ensures { result ≡ reached_from (layout chart.now) path all (members all) }
 {
-    let Some(start) = all.first() else {
-        return false;
-    };
-    match SmallSet::single(start) {
-        Some(from) => all.is_subset(flood(chart, path, from)),
-        None => unreachable(),
-    }
+    all.first()
+        .and_then(SmallSet::single)
+        .is_some_and(|from| all.is_subset(flood(chart, path, from)))
 }
 
 // Whether the path joins the relations into one tree: one link fewer than relations, all connected.

@@ -1,7 +1,7 @@
 use sets::SmallSet;
 
 // What a server may see: these attributes, where they were joined over just this path.
-#[derive(Clone, Copy)]
+#[derive(Clone, Copy, Default, PartialEq, Eq)]
 pub struct View {
     pub server: u16,
     pub attributes: SmallSet,
@@ -9,7 +9,7 @@ pub struct View {
 }
 
 // A rule as it is handed in: its number, and the view that it grants.
-#[derive(Clone, Copy)]
+#[derive(Clone, Copy, Default, PartialEq, Eq)]
 pub struct RuleRecord {
     pub number: u16,
     pub view: View,

@@ -4,8 +4,9 @@ ghost use Rattle.sample.specs.Sample.{sample_answer};
 
 use chart::{Chart, ChartRefusal};
 
-// Declares the sample chart part by part.
-fn declare() -> Result<Chart, ChartRefusal>
+// Three servers with a relation each, and two links.
+#[tactic(auto, unfolding(chart::specs::Build::bare))]
+pub fn sample_chart() -> Result<Chart, ChartRefusal>
     ensures { laid_out result ≡ sample_answer }
 {
     let mut chart = Chart::new(3)?;
@@ -15,11 +16,4 @@ fn declare() -> Result<Chart, ChartRefusal>
     chart.add_link(0, 3)?;
     chart.add_link(3, 5)?;
     Ok(chart)
-}
-
-// Three servers with a relation each, and two links.
-pub fn sample_chart() -> Result<Chart, ChartRefusal>
-    ensures { laid_out result ≡ sample_answer }
-{
-    declare()
 }

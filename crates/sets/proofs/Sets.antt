@@ -1,12 +1,12 @@
 -- Laws of sets, from those of bits.
-use Rattle.std.proofs.Common.{◌≡◌, ℕ, zero, suc, ◌+◌, ◌-◌, ◌<◌, ◌≤◌, Bool, true, false, cond, ◌&&◌, ◌||◌, eqb, ◌⊎◌, List, [], ◌∷◌, Decides, sym, refl, ap, ◌∙◌, inl, inr, add-one, arith}
+use Rattle.std.proofs.Common.{◌≡◌, ℕ, zero, suc, ◌+◌, ◌-◌, ◌<◌, ◌≤◌, Bool, true, false, cond, ◌&&◌, ◌||◌, eqb, ◌⊎◌, List, [], ◌∷◌, Some, None, Option, Decides, MatchOption, sym, refl, ap, ◌∙◌, inl, inr, add-one, arith}
 use lib.Bits.{bit_and}
 use Rattle.std.specs.List.{ContainsAt as Has, AllByRecursion}
 use Rattle.std.proofs.ByRecursion.{All-weaker, all-has}
-use Rattle.std.proofs.lemmas.Bool.{eqb-true, eq-eqb, or_cases, or_left, and_parts, and_from, cases_eq, both_ways}
+use Rattle.std.proofs.lemmas.Bool.{eqb-true, eq-eqb, or_cases, or_left, and_parts, and_from, cases_eq, cases_lt, cond-true, cond-false, both_ways}
 use Rattle.sets.specs.declared.small_set.SmallSet.{SmallSet}
 use Rattle.sets.specs.Bits.{bit, rising}
-use Rattle.sets.specs.Sets.{has, none, single, union, subset, disjoint, same, members, members_from}
+use Rattle.sets.specs.Sets.{has, none, single, union, subset, disjoint, same, members, members_from, next_from}
 use Rattle.sets.specs.Laws.{Laws, Within, Rises}
 use Rattle.sets.proofs.Bits.{bit-bit_or, bit-bit_and, bit_none, bit_power, bit_low, same_bits}
 
@@ -126,6 +126,32 @@ unfolding rising
 members_past s from h =
     let e : 64 - from ≡ 0 = omega arith in
     ap (rising (has s) from) e
+
+-- numbers that the set does not have are passed over
+members_skip : (s : SmallSet) (d from : ℕ) → from + d ≤ 64 → ((k : ℕ) → from ≤ k → k < from + d → has s k ≡ false) → members_from s from ≡ members_from s (from + d)
+members_skip s zero from within lacks = ap (members_from s) (omega arith)
+members_skip s (suc d) from within lacks =
+    members_step s from (omega arith)
+    ∙ cond-false (has s from) (from ∷ members_from s (from + 1)) (members_from s (from + 1)) (lacks from (omega arith) (omega arith))
+    ∙ members_skip s d (from + 1) (omega arith) (λ k least below. lacks k (omega arith) (omega arith))
+    ∙ ap (members_from s) (omega arith)
+
+-- the numbers of a set from one on, by the first of them
+pub members_first : (s : SmallSet) (from : ℕ) (r : Option ℕ)
+    → MatchOption r ((k : ℕ) → from ≤ k → k < 64 → has s k ≡ false) (λ i. (from ≤ i) × (i < 64) × (has s i ≡ true) × ((k : ℕ) → from ≤ k → k < i → has s k ≡ false))
+    → members_from s from ≡ next_from s r
+members_first s from None lacks = go (cases_lt from 64)
+  where
+    go : (from < 64) ⊎ (64 ≤ from) → members_from s from ≡ []
+    go (inl few) =
+        members_skip s (64 - from) from (omega arith) (λ k least below. lacks k least (omega arith))
+        ∙ members_past s (from + (64 - from)) (omega arith)
+    go (inr past) = members_past s from past
+members_first s from (Some i) (least, below, has_it, lacks) =
+    members_skip s (i - from) from (omega arith) (λ k at_least under. lacks k at_least (omega arith))
+    ∙ ap (members_from s) (omega arith)
+    ∙ members_step s i below
+    ∙ cond-true (has s i) (i ∷ members_from s (i + 1)) (members_from s (i + 1)) has_it
 
 module _ (p : ℕ → Bool) where
   pub rising_all : (n from : ℕ) → AllByRecursion (λ i. (from ≤ i) × (i < from + n) × (p i ≡ true)) (rising p from n)

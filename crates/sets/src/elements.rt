@@ -2,7 +2,7 @@ ghost use Rattle.std.specs.Prelude.{◌≡◌, ◌+◌, ◌-◌, ◌<◌, ◌≤
 ghost use Rattle.std.specs.Option.{option_to_list};
 ghost use Rattle.sets.specs.Sets.{members, members_from, next_from, head};
 ghost use Rattle.sets.specs.Elements.{rest};
-ghost use Rattle.std.specs.Iterator.{at_most};
+ghost use Rattle.std.specs.Iterator.{YieldsFirst, item_count};
 
 use crate::small_set::SmallSet;
 
@@ -18,12 +18,7 @@ fn first_from(set: SmallSet, from: u16) -> Option<u16>
     ensures value { members_from set from ≡ next_from set result }
     ensures bound { IfSome result (λ i. i < 64) }
 {
-    for i in from..64 {
-        if set.contains(i) {
-            return Some(i);
-        }
-    }
-    None
+    (from..64).find(|i| set.contains(*i))
 }
 
 impl SmallSet {
@@ -46,9 +41,9 @@ impl SmallSet {
 impl Iterator for Elements {
     type Item = u16;
 
-    ghost remaining = { λ s. at_most (length (rest s)) };
+    ghost remaining = { item_count rest };
 
-    ghost next_gives = { λ s r t. rest s ≡ option_to_list r ++ rest t };
+    ghost next_gives = { YieldsFirst rest };
 
     fn next(&mut self) -> Option<u16> {
         let i = first_from(self.set, self.from)?;

@@ -117,6 +117,6 @@ impl SmallSet {
     pub fn is_same(self, other: SmallSet) -> bool
         ensures { result ≡ same self other }
     {
-        self.bits == other.bits
+        self == other
     }
 }

@@ -1,2 +1,2 @@
-pub mod Sample
+pub mod Parts
 pub mod Worked

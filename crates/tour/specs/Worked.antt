@@ -20,16 +20,10 @@ use Rattle.planner.specs.declared.answer.Planned.{Planned}
 use Rattle.planner.specs.declared.answer.QueryRefusal.{QueryRefusal}
 use Rattle.planner.specs.declared.answer.QueryRefusal.TheVariants.{Blocked}
 use Rattle.planner.specs.Queries.{query_answer, plan_then, releases_then}
-use Rattle.tour.specs.declared.sample.Steps.{Steps}
-use Rattle.tour.specs.Sample.{sample, steps_of, refusal_of, set_of}
-
--- a profile by its numbers: shown, path, filtered
-abbrev pub profile_of : List ℕ → List ℕ → List ℕ → Profile
-profile_of shown path filtered = record { shown = set_of shown; path = set_of path; filtered = set_of filtered }
-
--- a rule by its number, server, attributes and path
-abbrev pub rule_of : ℕ → ℕ → List ℕ → List ℕ → RuleRecord
-rule_of number server attributes path = record { number = number; view = record { server = server; attributes = set_of attributes; path = set_of path } }
+use Rattle.sample.specs.Sample.{sample}
+use Rattle.sample.specs.Parts.{set_of, profile_of, rule_of}
+use Rattle.tour.specs.declared.parts.Steps.{Steps}
+use Rattle.tour.specs.Parts.{steps_of, refusal_of}
 
 -- a denial of attributes 0 and 3 for server 2, over rules read exactly
 abbrev pub denial_reading : List RuleRecord → ℕ → Profile → Bool

@@ -1,20 +1,16 @@
 // A walk through the library on a small chart: three servers with a relation each, and two links.
 #![tactic(auto)]
 
-mod sample;
-mod text;
+mod parts;
 
-use crate::sample::{
-    Sets, Steps, repeated_link, sample_chart, sample_sets, sample_steps, worked_cases,
-};
-use crate::text::{ProfileText, SetText};
-use anyhow::anyhow;
+use crate::parts::{Sets, Steps, repeated_link, sample_sets, sample_steps, worked_cases};
+use anyhow::Context;
 use chart::Chart;
 use composed::ComposedBook;
 use layers::{Carrier, Denial, Denials};
 use policy::{Book, BookRefusal, Policy};
 use profile::Profile;
-use rules::{RuleRecord, View};
+use sample::{ProfileText, SetText, rule, sample_chart};
 use sets::SmallSet;
 
 fn show_chart(rt: &HostRuntime, chart: &Chart) -> anyhow::Result<()> {
@@ -41,18 +37,6 @@ fn show_steps(rt: &HostRuntime, steps: &Steps) -> anyhow::Result<()> {
     println!(rt; "semi-join, left sends: {}", ProfileText(steps.column))?;
     println!(rt; "semi-join, left gets: {}", ProfileText(steps.reply))?;
     Ok(())
-}
-
-// A rule record.
-fn rule(number: u16, server: u16, attributes: SmallSet, path: SmallSet) -> RuleRecord {
-    RuleRecord {
-        number,
-        view: View {
-            server,
-            attributes,
-            path,
-        },
-    }
 }
 
 // Says what became of a call.
@@ -88,7 +72,7 @@ fn show_composition(rt: &HostRuntime, book: &mut ComposedBook, sets: &Sets) -> a
     let joined = Profile {
         shown: sets.ends,
         path: sets.link,
-        filtered: SmallSet::empty(),
+        ..Profile::default()
     };
     let none = SmallSet::empty();
     show_call(
@@ -109,17 +93,12 @@ fn show_composition(rt: &HostRuntime, book: &mut ComposedBook, sets: &Sets) -> a
 
 // A denial and a carrier over the same book.
 fn show_layers(rt: &HostRuntime, book: ComposedBook, sets: &Sets) -> anyhow::Result<()> {
-    let Ok(carried) = Carrier::new(book, Some(0)) else {
-        return Err(anyhow!("the carrier was refused"));
-    };
+    let carried = Carrier::new(book, Some(0))?;
     let denial = Denial {
         server: 2,
         attributes: sets.denied,
     };
-    let Ok(mut stack) = Denials::new(carried, &[denial]) else {
-        return Err(anyhow!("the denial was refused"));
-    };
-    let none = SmallSet::empty();
+    let mut stack = Denials::new(carried, &[denial])?;
     show_call(
         rt,
         "rule 3, server 2: 0,3,4 on path 0",
@@ -130,7 +109,7 @@ fn show_layers(rt: &HostRuntime, book: ComposedBook, sets: &Sets) -> anyhow::Res
             let profile = Profile {
                 shown,
                 path: sets.link,
-                filtered: none,
+                ..Profile::default()
             };
             show_question(rt, &stack, server, profile)?;
         }
@@ -140,21 +119,13 @@ fn show_layers(rt: &HostRuntime, book: ComposedBook, sets: &Sets) -> anyhow::Res
 
 fn main(rt: HostRuntime) -> anyhow::Result<()> {
     worked_cases();
-    let Ok(chart) = sample_chart() else {
-        return Err(anyhow!("the chart was refused"));
-    };
-    let Some(steps) = sample_steps(&chart) else {
-        return Err(anyhow!("a step was refused"));
-    };
-    let Some(refusal) = repeated_link(chart) else {
-        return Err(anyhow!("a repeated link was accepted"));
-    };
+    let chart = sample_chart()?;
+    let steps = sample_steps(&chart).context("a step was refused")?;
+    let refusal = repeated_link(chart).context("a repeated link was accepted")?;
     show_chart(&rt, &chart)?;
     show_steps(&rt, &steps)?;
     println!(rt; "link 3 = 0 again: refused {refusal}")?;
-    let Some(sets) = sample_sets() else {
-        return Err(anyhow!("a set was refused"));
-    };
+    let sets = sample_sets().context("a set was refused")?;
     let mut book = ComposedBook::new(chart);
     show_composition(&rt, &mut book, &sets)?;
     show_layers(&rt, book, &sets)

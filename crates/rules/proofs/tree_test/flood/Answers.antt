@@ -5,11 +5,11 @@ use Rattle.rules.specs.Trees.{rounds}
 use Rattle.rules.proofs.Rounds.{rounds_step, rounds_none, rounds_fixed}
 use Rattle.rules.proofs.tree_test.flood.Goals as goal
 
-pub returns-then-is_same : goal.returns-then-is_same
-returns-then-is_same c =
+pub returns-then-eq : goal.returns-then-eq
+returns-then-eq c =
     let l = layout c.args.chart.now in
     let reached = c.loop-round.reached in
-    let fixed = sym c.spread_once-next.ensures ∙ same_is c.spread_once-next.result reached (sym c.if-is_same.ensures) in
+    let fixed = sym c.spread_once-next.ensures ∙ same_is c.spread_once-next.result reached (sym c.eq.ensures ∙ c.if-eq.true) in
     sym (c.loop-round.invariant ∙ rounds_fixed l c.args.path (64 - c.loop-round._round) reached fixed)
 
 pub loop-round-preserved : goal.loop-round-preserved

@@ -1,22 +1,13 @@
-use Rattle.std.proofs.Common.{ℕ, cond, sym, ap, ◌∙◌, inl, inr}
-use Rattle.sets.specs.Sets.{union}
+use Rattle.std.proofs.Common.{ℕ, cond, rules, ap, ◌∙◌}
+use Rattle.sets.specs.Sets.{none, union, disjoint}
 use Rattle.chart.specs.Charts.{layout}
-use Rattle.sets.specs.Sets.{none, disjoint}
-use Rattle.rules.specs.Relations.{link_relations}
-use Rattle.rules.proofs.Gather.{gather_turn, gather_done}
+use Rattle.rules.specs.Relations.{gather, link_relations}
+use Rattle.rules.proofs.Gather.{gathered}
 use Rattle.rules.proofs.tree_test.spread_once.Goals as goal
-use Rattle.rules.proofs.tree_test.spread_once.Goals.{then-contains, else-contains}
-
-pub loop-k-preserved : goal.loop-k-preserved
-loop-k-preserved c =
-    let i = c.loop-k.k in
-    gather_turn (λ (k : ℕ). cond (disjoint (link_relations (layout c.args.chart.now) k) c.args.from) none (link_relations (layout c.args.chart.now) k)) c.args.path i c.loop-k.found c.if-contains.found c.loop-k-test.true
-    (elim c.if-contains.branch [
-      | then-contains w ↦ inl (sym c.contains.ensures ∙ w.if-contains.true, w.found-is ∙ w.union-found.ensures ∙ ap (union c.loop-k.found) w.crossed.ensures)
-      | else-contains w ↦ inr (sym c.contains.ensures ∙ w.if-contains.false, w.found-is)
-    ])
-    ∙ c.loop-k.invariant
 
 pub returns : goal.returns
 returns c =
-    sym (gather_done (λ (k : ℕ). cond (disjoint (link_relations (layout c.args.chart.now) k) c.args.from) none (link_relations (layout c.args.chart.now) k)) c.args.path c.loop-k.k c.loop-k.found c.loop-k-test.false) ∙ c.loop-k.invariant
+    let relations = link_relations (layout c.args.chart.now) in
+    let f = λ (k : ℕ). cond (disjoint (relations k) c.args.from) none (relations k) in
+    gathered _ f _ _ _ _ c.fold.ensures.ran (λ found link more state called. search rules)
+    ∙ ap (λ xs. union c.args.from (gather f xs)) c.elements.ensures
