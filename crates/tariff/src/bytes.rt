@@ -18,13 +18,9 @@ pub struct ByteTariff {
 fn weigh(chart: &Chart, shown: SmallSet) -> u32
     ensures { result ≡ shown_bytes (layout chart.now) shown }
 {
-    let mut total = 0u32;
-    for a in 0..64 {
-        if shown.contains(a) {
-            total = total.saturating_add(u32::from(chart.width(a)));
-        }
-    }
-    total
+    shown.elements().fold(0u32, |total, a| {
+        total.saturating_add(u32::from(chart.width(a)))
+    })
 }
 
 impl ByteTariff {
