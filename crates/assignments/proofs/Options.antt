@@ -9,7 +9,6 @@ use Rattle.assignments.specs.declared.mode.Mode.TheVariants.{Local, LeftMaster, 
 use Rattle.assignments.specs.declared.parts.Place.{Place}
 use Rattle.assignments.specs.Modes.{mode_number, mode_at, fits, left_at, right_at, releases, allowed}
 use Rattle.assignments.specs.Assignments.{own_price}
-use Rattle.assignments.specs.Cheapest.{better}
 use Rattle.assignments.specs.Table.{holding, weighed, offer, best_of_mode, best}
 use Rattle.assignments.specs.Stands.{Before}
 use Rattle.assignments.proofs.Modes.{mode_is, number_below, number_is}

@@ -1,5 +1,5 @@
 -- What is found for the root says of the query's safe assignments what it should.
-use Rattle.std.proofs.Common.{◌≡◌, ℕ, ◌-◌, ◌<◌, ◌≤◌, Bool, true, List, length, take, drop, Some, None, Option, sym, refl, ap, ◌∙◌, subst, arith}
+use Rattle.std.proofs.Common.{◌≡◌, ℕ, ◌-◌, ◌<◌, ◌≤◌, Bool, true, List, length, take, drop, Some, None, Option, sym, refl, ap, ◌∙◌, subst, arith, Ok, Err}
 use Rattle.std.proofs.lemmas.List.{take_at}
 use Rattle.chart.specs.Layout.{Layout}
 use Rattle.chart.specs.Sound as chart

@@ -1,7 +1,9 @@
 ghost use Rattle.std.specs.Prelude.{◌≡◌};
+ghost use Rattle.planner.specs.declared.answer.QueryRefusal.TheVariants as variants;
 ghost use Rattle.planner.specs.Refusals.{refusal_number, refusal_place};
 
 use queries::TreeRefusal;
+use search::Blocked;
 
 // What a plan returns: the executor of the root, the price, and how many releases were listed.
 #[derive(Clone, Copy)]
@@ -18,6 +20,22 @@ pub enum QueryRefusal {
     Tree(TreeRefusal),
     // no safe assignment: the lowest node whose own subtree has none
     Blocked(u16),
+}
+
+impl From<TreeRefusal> for QueryRefusal {
+    ghost from_gives = { λ tree r. r ≡ variants.Tree tree };
+
+    fn from(refusal: TreeRefusal) -> QueryRefusal {
+        QueryRefusal::Tree(refusal)
+    }
+}
+
+impl From<Blocked> for QueryRefusal {
+    ghost from_gives = { λ blocked r. r ≡ variants.Blocked blocked.node };
+
+    fn from(blocked: Blocked) -> QueryRefusal {
+        QueryRefusal::Blocked(blocked.node)
+    }
 }
 
 impl QueryRefusal {

@@ -21,7 +21,7 @@ use chart::Chart;
 use policy::Policy;
 use profile::Profile;
 use queries::{Node, TreeRefusal, has_fit_count};
-use search::{Outcome, Seat, Table, search_tree};
+use search::{Blocked, Seat, Table, search_tree};
 use tariff::Tariff;
 
 // Writes out the plan and the releases that a filled table records for the query at this seat.
@@ -59,7 +59,7 @@ fn answer_found<P: Copy>(
     chart: &Chart,
     nodes: &[Node],
     profiles: &[Profile],
-    outcome: Outcome<P>,
+    outcome: Result<Seat<P>, Blocked>,
     work: &mut [Option<Place<P>>],
     plan: &mut [Step],
     releases: &mut [Release],
@@ -70,10 +70,8 @@ fn answer_found<P: Copy>(
     ensures work { work.new ≡ work.old }
     ensures wrote { (c : Pricing P) (may : ℕ → Shape → Bool) (old : List (Maybe (Entry P))) → Filled c may (layout chart.now) nodes.now (length nodes.now) old work.old → outcome ≡ outcome_of c may (layout chart.now) nodes.now → AnsweredBy c may (layout chart.now) nodes.now outcome plan.old plan.new releases.old releases.new result }
 {
-    match outcome {
-        Outcome::Seated(seat) => Ok(write_out(chart, nodes, profiles, seat, work, plan, releases)),
-        Outcome::Blocked(node) => Err(QueryRefusal::Blocked(node)),
-    }
+    let seat = outcome?;
+    Ok(write_out(chart, nodes, profiles, seat, work, plan, releases))
 }
 
 // Plans a query over any policy, at any tariff. It fills the work table, writes an executor and a mode for each node into the
@@ -95,24 +93,19 @@ pub fn plan_query<P: Policy, T: Tariff>(
     ensures judged { Judged (T.pricing tariff.now) (P.Policy.reading policy.now (P.Policy.rules policy.now)) (layout (P.Policy.charted policy.now)) nodes.now work.new plan.new releases.new result }
 {
     if !has_fit_count(nodes) {
-        return Err(QueryRefusal::Tree(TreeRefusal::Count));
+        return Err(TreeRefusal::Count.into());
     }
     if plan.len() < nodes.len() || releases.len() < nodes.len() {
-        return Err(QueryRefusal::Tree(TreeRefusal::Room));
+        return Err(TreeRefusal::Room.into());
     }
-    match search_tree(policy, tariff, nodes, work) {
-        Ok(found) => {
-            let profiles = found.profiles;
-            answer_found(
-                policy.chart(),
-                nodes,
-                &profiles,
-                found.outcome,
-                work,
-                plan,
-                releases,
-            )
-        }
-        Err(refusal) => Err(QueryRefusal::Tree(refusal)),
-    }
+    let found = search_tree(policy, tariff, nodes, work)?;
+    answer_found(
+        policy.chart(),
+        nodes,
+        &found.profiles,
+        found.outcome,
+        work,
+        plan,
+        releases,
+    )
 }

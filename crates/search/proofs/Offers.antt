@@ -1,5 +1,5 @@
 -- One option after another.
-use Rattle.std.proofs.Common.{◌≡◌, ℕ, ◌+◌, Bool, true, false, ◌&&◌, List, Some, None, Option, sym, refl, ap, ◌∙◌, ap₂}
+use Rattle.std.proofs.Common.{◌≡◌, ℕ, Bool, true, false, ◌&&◌, List, Some, None, Option, sym, ap, ◌∙◌, ap₂}
 use Rattle.profile.specs.declared.shape.Profile.{Profile}
 use Rattle.profile.specs.declared.join.Join.{Join}
 use Rattle.tariff.specs.Pricing.{Pricing}

@@ -30,8 +30,8 @@ pub(crate) fn fill_table<P: Policy, T: Tariff>(
     ensures servers { table.new.servers ≡ table.old.servers }
     ensures lent { table.new.places.ghost_name ≡ table.old.places.ghost_name }
 {
-    for i in 0..nodes.len() {
-        let source = source_of(policy, nodes[i], profiles);
+    for (i, node) in nodes.iter().enumerate() {
+        let source = source_of(policy, *node, profiles);
         fill_row(tariff, &source, i as u16, table);
     }
 }

@@ -5,16 +5,13 @@ use Rattle.planner.specs.Queries.{AnsweredBy}
 use Rattle.planner.proofs.Verdicts.{seat_place}
 use Rattle.planner.proofs.query.answer_found.Goals as goal
 
-pub returns-in-Seated : goal.returns-in-Seated
-returns-in-Seated g c = record {
-  work = c.write_out.ensures.work;
-  wrote = λ d may old filled found.
-      let l = layout c.args.chart.now in
-      let nodes = c.args.nodes.now in
-      let q = c.in-Seated.seat in
-      let held = seat_place d may l nodes q (sym found ∙ c.in-Seated.is) in
-      let w = c.write_out.ensures.wrote d may old held.0 filled held.1 held.2 in
-      subst (λ (o : Outcome g.row.P.Denot). AnsweredBy d may l nodes o c.args.plan.now c.write_out.new.plan c.args.releases.now c.write_out.new.releases (Ok c.write_out.result))
-      (sym c.in-Seated.is)
-      (record { answer = ap Ok w.answer; plan = w.plan; releases = w.releases });
-}
+pub returns-clause-wrote : goal.returns-clause-wrote
+returns-clause-wrote g c = λ d may old filled found.
+    let l = layout c.args.chart.now in
+    let nodes = c.args.nodes.now in
+    let q = c.in_ok-seat.seat in
+    let held = seat_place d may l nodes q (sym found ∙ c.in_ok-seat.was) in
+    let w = c.write_out.ensures.wrote d may old held.0 filled held.1 held.2 in
+    subst (λ (o : Outcome g.row.P.Denot). AnsweredBy d may l nodes o c.args.plan.now c.write_out.new.plan c.args.releases.now c.write_out.new.releases (Ok c.write_out.result))
+    (sym c.in_ok-seat.was)
+    (record { answer = ap Ok w.answer; plan = w.plan; releases = w.releases })

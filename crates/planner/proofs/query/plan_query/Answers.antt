@@ -1,39 +1,17 @@
-use Rattle.std.proofs.Common.{◌≡◌, true, length, sym, ap, ◌∙◌, subst, arith}
+use Rattle.std.proofs.Common.{◌≡◌, true, length, sym, ap, ◌∙◌, subst}
 use Rattle.chart.specs.declared.state.Chart.{Chart}
 use Rattle.chart.specs.Charts.{layout}
 use Rattle.chart.proofs.Sound.{chart_sound}
-use Rattle.queries.specs.declared.refusal.TreeRefusal.TheVariants.{Room}
-use Rattle.queries.specs.Questions.{count_fits, node_profile}
-use Rattle.queries.specs.Sound.{Sound}
+use Rattle.queries.specs.Questions.{count_fits}
 use Rattle.search.specs.Rows.{Filled}
 use Rattle.search.specs.Outcomes.{Outcome, outcome_of}
 use Rattle.planner.specs.Queries.{AnsweredBy, answer_by, plan_by, releases_by}
 use Rattle.planner.proofs.Buffers.{table_is}
-use Rattle.planner.proofs.Queried.{no_room, as_searched, refused_by, accepted_by, judged_by}
+use Rattle.planner.proofs.Queried.{as_searched, accepted_by, judged_by}
 use Rattle.planner.proofs.query.plan_query.Goals as goal
 
-pub returns-then-plan-nodes : goal.returns-then-plan-nodes
-returns-then-plan-nodes g c =
-    let l = layout (g.P.Policy.charted c.args.policy.now) in
-    let nodes = c.args.nodes.now in
-    let fit : count_fits nodes ≡ true = sym c.has_fit_count.ensures ∙ c.if-not-has_fit_count.false in
-    let r = refused_by (g.T.Tariff.pricing c.args.tariff.now) (g.P.Policy.reading c.args.policy.now (g.P.Policy.rules c.args.policy.now)) l nodes c.args.work.now c.args.plan.now c.args.releases.now Room
-    (no_room l nodes (length c.args.work.now) (length c.args.plan.now) (length c.args.releases.now) fit c.then-plan-nodes.either) in
-    record { answer = r.answer; work = r.same_work; plan = r.same_plan; releases = r.same_releases; judged = tt }
-
-pub answer_found-requires : goal.answer_found-requires
-answer_found-requires g c =
-    let nodes = c.args.nodes.now in
-    let h = c.in-Ok.ensures.found in
-    let e = sym c.chart.ensures in
-    record {
-      sound = subst (λ (v : Chart). Sound (layout v) nodes) e h.sound;
-      profiles = λ k b. h.profiles k b ∙ ap (λ (v : Chart). node_profile (layout v) nodes k) e;
-      sizes = (omega (arith, h.sized, h.sound.few), c.if-plan-nodes.false, c.if-releases-nodes.false);
-    }
-
-pub returns-in-Ok : goal.returns-in-Ok
-returns-in-Ok g c =
+pub returns : goal.returns
+returns g c =
     let l = layout (g.P.Policy.charted c.args.policy.now) in
     let may = g.P.Policy.reading c.args.policy.now (g.P.Policy.rules c.args.policy.now) in
     let t = c.args.tariff.now in
@@ -43,8 +21,8 @@ returns-in-Ok g c =
     let plan = c.args.plan.now in
     let releases = c.args.releases.now in
     let new = c.search_tree.new.work in
-    let h = c.in-Ok.ensures in
-    let o = c.in-Ok.found.outcome in
+    let h = c.in_ok-found.ensures in
+    let o = c.in_ok-found.found.outcome in
     let fit : count_fits nodes ≡ true = sym c.has_fit_count.ensures ∙ c.if-not-has_fit_count.false in
     let yes' = accepted_by pricing may l nodes work plan releases
     (as_searched l nodes (length work) (length plan) (length releases) fit c.if-plan-nodes.false c.if-releases-nodes.false ∙ sym h.answer) in

@@ -11,5 +11,5 @@ returns g c =
     let f : ℕ → Option (Place g.row.P.Denot) = place_at c.args.table.now.places.now n c.args.node in
     empty_by f n c.all.result
     (cases_from_all _ _ _ (λ s. is_some (f s) ≡ false) (λ s. is_some (f s) ≡ true) c.all.ensures.ran (YieldsList-from_range 0 n n refl (omega arith))
-        (λ s q k. (search rules, grind (arith, tests)))
-        (λ s q k. grind (arith, tests)))
+    (λ s q k. (search rules, grind (arith, tests)))
+    (λ s q k. grind (arith, tests)))

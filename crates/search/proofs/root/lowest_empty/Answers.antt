@@ -11,5 +11,5 @@ returns g c =
     let p : ℕ → Bool = λ k. empty_row (place_at c.args.table.now.places.now n k) n in
     first_by p c.args.nodes c.find.result
     (first_from_Range _ _ _ _ (λ k. p k ≡ true) (λ k. p k ≡ false) c.find.ensures.ran
-        (λ x q k. grind (arith, tests))
-        (λ x q k. (search rules, grind (arith, tests))))
+    (λ x q k. grind (arith, tests))
+    (λ x q k. (search rules, grind (arith, tests))))
