@@ -98,12 +98,6 @@ module _ (e f : Steps) where
       let own = ap (own_price c) (releases_like l i k a b g) in
       cc
 
-  pub other_like : (t : Tree) → Agree t e f → other e t ≡ other f t
-  other_like (leaf i r) g = ap (λ (v : Step). v.executor) (agree_top (leaf i r) g)
-  other_like (projection i s t) g = ap (λ (v : Step). v.executor) (agree_top (projection i s t) g)
-  other_like (filtering i s t) g = ap (λ (v : Step). v.executor) (agree_top (filtering i s t) g)
-  other_like (join i k a b) g = at_join other_of i k a b g
-
   pub way_like : (l : Layout) (may : ℕ → Profile → Bool) (t : Tree) (s : ℕ) → Agree t e f → Way l may t s e → Way l may t s f
   way_like l may t s g h = record {
     obeys = obeys_like l t g h.obeys;

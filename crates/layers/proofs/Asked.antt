@@ -26,15 +26,6 @@ module _ {E T : Type 0} (t : T) where
       go true k rest = rest k
       go false k rest = cc
 
--- a denial that was accepted is one of 32
-pub held_below : (l : Layout) (i : ℕ) (d : Denial) → Ok tt ≡ denial_answer l i d → i < 32
-held_below l i d h = ltb-true i 32 (go (fit l d) (ltb i 32) h)
-  where
-    go : (a b : Bool) → Ok (tt {0}) ≡ asked ((a, Unfit) ∷ (b, TooMany) ∷ []) (tt {0}) → b ≡ true
-    go true true k = refl
-    go true false k = cc
-    go false b k = cc
-
 -- a loop that asks the questions for denial i
 module _ (l : Layout) (ds : List Denial) (i : ℕ) (so_far : asked (denials_questions l i (drop i ds)) tt ≡ denials_answer l ds) where
   pub refused_at : (d : Denial) (n : ℕ) (e : LayerRefusal) → n ≡ i → i < length ds → Err e ≡ denial_answer l n (get_or ds i d) → Err e ≡ denials_answer l ds

@@ -42,8 +42,3 @@ uses_same p q (suc n) j same =
     let e = same j (omega arith) in
     let r = uses_same p q n (j + 1) (λ k h. same k (omega arith)) in
     cc
-
--- what holds anyway holds of whatever was made
-pub made_anyway : {T E Q : Type 0} (r : Result T E) → Q → IfOk r (λ _. Q)
-made_anyway (Ok t) h = h
-made_anyway (Err e) h = tt
