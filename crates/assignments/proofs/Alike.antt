@@ -10,8 +10,8 @@ use Rattle.assignments.specs.declared.mode.Mode.{Mode}
 use Rattle.assignments.specs.declared.mode.Mode.TheVariants.{Local}
 use Rattle.assignments.specs.declared.parts.Step.{Step}
 use Rattle.assignments.specs.declared.parts.Place.{Place}
-use Rattle.assignments.specs.Modes.{Joins, other_of, releases, allowed}
-use Rattle.assignments.specs.Assignments.{Steps, executor, Obeys, Safe, own_releases, own_price, cost, other, Way}
+use Rattle.assignments.specs.Modes.{Joins, releases, allowed}
+use Rattle.assignments.specs.Assignments.{Steps, executor, Obeys, Safe, own_releases, own_price, cost, Way}
 use Rattle.assignments.specs.Table.{place}
 use Rattle.assignments.specs.Follows.{Holds, Follows}
 

@@ -1,13 +1,11 @@
 -- Questions asked one after another.
-use Rattle.std.proofs.Common.{◌≡◌, ℕ, ◌+◌, ◌<◌, ◌≤◌, Bool, true, false, cond, ltb, List, [], ◌∷◌, ◌++◌, length, get_or, drop, Ok, Err, sym, refl, ap, ◌∙◌}
+use Rattle.std.proofs.Common.{◌≡◌, ℕ, ◌+◌, ◌<◌, ◌≤◌, Bool, true, false, cond, List, [], ◌∷◌, ◌++◌, length, get_or, drop, Ok, Err, sym, refl, ap, ◌∙◌}
 use Rattle.std.proofs.lemmas.List.{at_drop_more, at_drop_all}
-use Rattle.std.proofs.lemmas.Bool.{ltb-true}
 use Rattle.chart.specs.Questions.{asked}
 use Rattle.chart.specs.Layout.{Layout}
 use Rattle.layers.specs.declared.denial.Denial.{Denial}
 use Rattle.layers.specs.declared.refusal.LayerRefusal.{LayerRefusal}
-use Rattle.layers.specs.declared.refusal.LayerRefusal.TheVariants.{Unfit, TooMany}
-use Rattle.layers.specs.Questions.{fit, denial_questions, denial_answer, denials_questions, denials_answer}
+use Rattle.layers.specs.Questions.{denial_questions, denial_answer, denials_questions, denials_answer}
 
 module _ {E T : Type 0} (t : T) where
   asked_refused : (qs rs : List (Bool × E)) (e : E) → asked qs t ≡ Err e → asked (qs ++ rs) t ≡ Err e

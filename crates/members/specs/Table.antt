@@ -1,5 +1,5 @@
 -- What a table of 256 places holds at its front.
-use Rattle.std.specs.Prelude.{◌≡◌, ℕ, ◌<◌, ◌≤◌, true, List, length, take, Option, MatchOption}
+use Rattle.std.specs.Prelude.{◌≡◌, ℕ, ◌≤◌, true, List, length, take}
 use Rattle.sets.specs.Sets.{none}
 use Rattle.chart.specs.Layout.{Layout}
 use Rattle.rules.specs.declared.view.View.{View}
