@@ -136,7 +136,11 @@ mod tests {
         let mut lent = unwritten();
         let (number, place) = ask(policy, &nodes, &mut lent).err().unwrap_or((0, 0));
         let (work, plan, releases) = written(&lent);
-        (number, place, work.saturating_add(plan).saturating_add(releases))
+        (
+            number,
+            place,
+            work.saturating_add(plan).saturating_add(releases),
+        )
     }
 
     #[test]
