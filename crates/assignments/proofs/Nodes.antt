@@ -1,8 +1,8 @@
 -- The subtrees of a query's nodes: what they hold, that no node stands twice in one, and that following the table goes down.
 use Rattle.std.proofs.Common.{◌≡◌, ℕ, zero, suc, ◌+◌, ◌-◌, ◌<◌, ◌≤◌, Bool, true, false, ◌||◌, eqb, ◌⊎◌, List, [], ◌∷◌, length, sym, refl, ap, ◌∙◌, subst, inl, inr, ⊎_elim, arith}
-use Rattle.std.specs.List.{AllByRecursion}
+use Rattle.std.specs.List.{AllByRecursion, list_any}
 use Rattle.std.proofs.lemmas.Bool.{or_left, or_right, or_cases, eqb-true, eq-eqb, cases_eq, cases_lt, cases_Bool, false≢true}
-use Rattle.chart.specs.Layout.{Layout, any_of}
+use Rattle.chart.specs.Layout.{Layout}
 use Rattle.profile.specs.declared.shape.Profile.{Profile}
 use Rattle.tariff.specs.Pricing.{Pricing}
 use Rattle.queries.specs.declared.node.Node.{Node}
@@ -23,10 +23,10 @@ uses_one a j h = ⊎_elim (eqb-true a j) (λ f. absurd (false≢true f)) (or_cas
 uses_two : (a b j : ℕ) → (eqb a j || (eqb b j || false)) ≡ true → (a ≡ j) ⊎ (b ≡ j)
 uses_two a b j h = ⊎_elim (λ t. inl (eqb-true a j t)) (λ t. inr (uses_one b j t)) (or_cases (eqb a j) (eqb b j || false) h)
 
-earlier_used : (i j : ℕ) (xs : List ℕ) → AllByRecursion (λ o. o < i) xs → any_of (λ o. eqb o j) xs ≡ true → j < i
+earlier_used : (i j : ℕ) (xs : List ℕ) → AllByRecursion (λ o. o < i) xs → list_any (λ o. eqb o j) xs ≡ true → j < i
 earlier_used i j [] all h = absurd (false≢true h)
 earlier_used i j (x ∷ xs) all h =
-    ⊎_elim (λ t. let z : x ≡ j = eqb-true x j t in omega (arith, all.0)) (λ t. earlier_used i j xs all.1 t) (or_cases (eqb x j) (any_of (λ o. eqb o j) xs) h)
+    ⊎_elim (λ t. let z : x ≡ j = eqb-true x j t in omega (arith, all.0)) (λ t. earlier_used i j xs all.1 t) (or_cases (eqb x j) (list_any (λ o. eqb o j) xs) h)
 
 module _ (f : ℕ → Tree) (i : ℕ) where
   grow_has : (x : Node) (k : ℕ) → has_node (grow f i x) k ≡ true → (k ≡ i) ⊎ ((j : ℕ) × (uses j x ≡ true) × (has_node (f j) k ≡ true))

@@ -1,9 +1,10 @@
 -- Records entered one after another into an exact book.
 use Rattle.std.proofs.Common.{◌≡◌, ℕ, suc, ◌+◌, ◌<◌, ◌≤◌, Bool, true, false, cond, not, ◌&&◌, eqb, leb, List, [], ◌∷◌, length, get_or, drop, Ok, Err, Result, sym, refl, ap, ◌∙◌, arith}
+use Rattle.std.specs.List.{list_all}
 use Rattle.std.proofs.lemmas.List.{at_drop_more, at_drop_all}
 use Rattle.std.proofs.lemmas.Bool.{and_from, not_from_false, or_from, or_left, or_right, eq-eqb, ne_eqb, both_ways}
 use Rattle.chart.specs.Questions.{asked}
-use Rattle.chart.specs.Layout.{Layout, all_of}
+use Rattle.chart.specs.Layout.{Layout}
 use Rattle.rules.specs.declared.view.RuleRecord.{RuleRecord}
 use Rattle.rules.specs.declared.refusal.RuleRefusal.{RuleRefusal}
 use Rattle.rules.specs.Rules.{rule_questions, rule_answer, well_formed}
@@ -33,11 +34,11 @@ own_tells : (o : Result RuleRecord RuleRefusal) (a : Result (Unit {0}) BookRefus
 own_tells (Ok x) a h = ((x, refl), h)
 own_tells (Err e) a h = absurd (let z : ◌≡◌ {A = ℕ} 0 1 = cc in omega arith)
 
-asked_all : {E T : Type 0} (qs : List (Bool × E)) (t u : T) → asked qs t ≡ Ok u → all_of (λ (q : Bool × E). q.0) qs ≡ true
+asked_all : {E T : Type 0} (qs : List (Bool × E)) (t u : T) → asked qs t ≡ Ok u → list_all (λ (q : Bool × E). q.0) qs ≡ true
 asked_all [] t u h = refl
 asked_all {E} (q ∷ qs) t u h = go q.0 h (asked_all qs t u)
   where
-    go : (b : Bool) → cond b (asked qs t) (Err q.1) ≡ Ok u → (asked qs t ≡ Ok u → all_of (λ (x : Bool × E). x.0) qs ≡ true) → (b && all_of (λ (x : Bool × E). x.0) qs) ≡ true
+    go : (b : Bool) → cond b (asked qs t) (Err q.1) ≡ Ok u → (asked qs t ≡ Ok u → list_all (λ (x : Bool × E). x.0) qs ≡ true) → (b && list_all (λ (x : Bool × E). x.0) qs) ≡ true
     go true k rest = rest k
     go false k rest = absurd (let z : ◌≡◌ {A = ℕ} 0 1 = cc in omega arith)
 
@@ -58,11 +59,11 @@ else_tells (Ok t) n rest h = (refl, h)
 else_tells (Err e) n rest h = absurd (let z : ◌≡◌ {A = ℕ} 0 1 = cc in omega arith)
 
 -- records that were all accepted are well formed, and apart from each other and from the rules before
-pub entered_formed : (l : Layout) (rules rs : List RuleRecord) → entered_from l rules rs ≡ Ok tt → all_of (well_formed l) rs ≡ true
+pub entered_formed : (l : Layout) (rules rs : List RuleRecord) → entered_from l rules rs ≡ Ok tt → list_all (well_formed l) rs ≡ true
 entered_formed l rules [] h = refl
 entered_formed l rules (r ∷ rs) h =
     let t = else_tells (entry_answer l exact_fits rules r) r.number (entered_from l (r ∷ rules) rs) h in
-    and_from (well_formed l r) (all_of (well_formed l) rs) (entry_formed l rules r t.0) (entered_formed l (r ∷ rules) rs t.1)
+    and_from (well_formed l r) (list_all (well_formed l) rs) (entry_formed l rules r t.0) (entered_formed l (r ∷ rules) rs t.1)
 
 -- no later record has the number of a rule that is there
 later_free : (l : Layout) (n : ℕ) (rules rs : List RuleRecord) → in_force n rules ≡ true → entered_from l rules rs ≡ Ok tt → in_force n rs ≡ false

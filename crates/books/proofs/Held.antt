@@ -1,10 +1,9 @@
 -- Slots that are filled and emptied.
 use Rattle.std.proofs.Common.{◌≡◌, ℕ, zero, suc, ◌<◌, ◌≤◌, Bool, true, false, cond, not, ◌||◌, eqb, List, [], ◌∷◌, length, get_or, set, is_some, Some, None, Ok, Err, filter, Option, sym, refl, ap, ◌∙◌, arith, MatchOption, inl, inr, ltb}
-use Rattle.std.specs.List.{position, position_or_len}
+use Rattle.std.specs.List.{position, position_or_len, list_all, list_any}
 use Rattle.std.proofs.lemmas.List.Sums.{fails_before_first}
 use Rattle.std.proofs.lemmas.List.Quantifiers.{position-Some}
 use Rattle.std.proofs.lemmas.Bool.{false≢true, true≢false, eqb-true, and_parts, not-true, not_from_true, not_from_false, eq-eqb, ne_eqb, cond-true, cond-false, both_ways, or_left, or_right, or_parts, or_from, and_from, cases_lt, lt-ltb}
-use Rattle.chart.specs.Layout.{all_of, any_of}
 use Rattle.rules.specs.declared.view.RuleRecord.{RuleRecord}
 use Rattle.rules.specs.declared.rule.Rule.{Rule}
 use Rattle.policy.specs.declared.refusal.BookRefusal.TheVariants.{InForce, Full}
@@ -152,20 +151,20 @@ pub apart_more : (rules : List RuleRecord) (r : RuleRecord) → in_force r.numbe
 apart_more rules r free distinct = and_from (not (in_force r.number rules)) (apart rules) (not_from_false (in_force r.number rules) free) distinct
 
 -- rules that pass a test still do when one leaves
-pub all_fewer : {X : Type 0} (p q : X → Bool) (xs : List X) → all_of p xs ≡ true → all_of p (filter q xs) ≡ true
+pub all_fewer : {X : Type 0} (p q : X → Bool) (xs : List X) → list_all p xs ≡ true → list_all p (filter q xs) ≡ true
 all_fewer p q [] h = refl
-all_fewer p q (x ∷ xs) h = let b = and_parts (p x) (all_of p xs) h in go (q x) b.0 (all_fewer p q xs b.1)
+all_fewer p q (x ∷ xs) h = let b = and_parts (p x) (list_all p xs) h in go (q x) b.0 (all_fewer p q xs b.1)
   where
-    go : (b : Bool) → p x ≡ true → all_of p (filter q xs) ≡ true → all_of p (cond b (x ∷ filter q xs) (filter q xs)) ≡ true
-    go true now rest = and_from (p x) (all_of p (filter q xs)) now rest
+    go : (b : Bool) → p x ≡ true → list_all p (filter q xs) ≡ true → list_all p (cond b (x ∷ filter q xs) (filter q xs)) ≡ true
+    go true now rest = and_from (p x) (list_all p (filter q xs)) now rest
     go false now rest = rest
 
-any_fewer : {X : Type 0} (p q : X → Bool) (xs : List X) → any_of p xs ≡ false → any_of p (filter q xs) ≡ false
+any_fewer : {X : Type 0} (p q : X → Bool) (xs : List X) → list_any p xs ≡ false → list_any p (filter q xs) ≡ false
 any_fewer p q [] h = refl
-any_fewer p q (x ∷ xs) h = let b = or_parts (p x) (any_of p xs) h in go (q x) b.0 (any_fewer p q xs b.1)
+any_fewer p q (x ∷ xs) h = let b = or_parts (p x) (list_any p xs) h in go (q x) b.0 (any_fewer p q xs b.1)
   where
-    go : (b : Bool) → p x ≡ false → any_of p (filter q xs) ≡ false → any_of p (cond b (x ∷ filter q xs) (filter q xs)) ≡ false
-    go true now rest = or_from (p x) (any_of p (filter q xs)) now rest
+    go : (b : Bool) → p x ≡ false → list_any p (filter q xs) ≡ false → list_any p (cond b (x ∷ filter q xs) (filter q xs)) ≡ false
+    go true now rest = or_from (p x) (list_any p (filter q xs)) now rest
     go false now rest = rest
 
 pub apart_fewer : (q : RuleRecord → Bool) (rules : List RuleRecord) → apart rules ≡ true → apart (filter q rules) ≡ true

@@ -1,7 +1,7 @@
 ghost use Rattle.std.specs.Prelude.{◌≡◌, true, [], length, nat_le};
+ghost use Rattle.std.specs.List.{list_all};
 ghost use Rattle.std.proofs.Common.{ap, rules, arith};
 ghost use Rattle.chart.specs.Charts.{layout};
-ghost use Rattle.chart.specs.Layout.{all_of};
 ghost use Rattle.rules.specs.Rules.{well_formed};
 ghost use Rattle.policy.specs.Reading.{exact_reading};
 ghost use Rattle.policy.specs.Books.{apart};
@@ -22,7 +22,7 @@ pub struct ExactBook {
     slots: [Option<Rule>; 64],
     ghost sized: { length slots ≡ 64 },
     ghost distinct: { apart (held slots) ≡ true },
-    ghost formed: { all_of (well_formed (layout chart)) (held slots) ≡ true },
+    ghost formed: { list_all (well_formed (layout chart)) (held slots) ≡ true },
 }
 
 impl ExactBook {

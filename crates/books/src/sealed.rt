@@ -1,6 +1,6 @@
 ghost use Rattle.std.specs.Prelude.{◌≡◌, true, List, [], OnOk};
+ghost use Rattle.std.specs.List.{list_all};
 ghost use Rattle.chart.specs.Charts.{layout};
-ghost use Rattle.chart.specs.Layout.{all_of};
 ghost use Rattle.rules.specs.Rules.{well_formed};
 ghost use Rattle.policy.specs.Reading.{exact_reading};
 ghost use Rattle.policy.specs.Books.{apart};
@@ -20,7 +20,7 @@ pub struct SealedList<'a> {
     chart: Chart,
     records: &'a [RuleRecord],
     ghost distinct: { apart records.now ≡ true },
-    ghost formed: { all_of (well_formed (layout chart)) records.now ≡ true },
+    ghost formed: { list_all (well_formed (layout chart)) records.now ≡ true },
 }
 
 impl<'a> SealedList<'a> {
@@ -45,7 +45,7 @@ impl<'a> SealedList<'a> {
     pub fn check(chart: &Chart, records: &[RuleRecord]) -> Result<(), Fault>
         ensures answer { result ≡ sealed_answer (layout chart.now) records.now }
         ensures distinct { OnOk result (apart records.now ≡ true) }
-        ensures formed { OnOk result (all_of (well_formed (layout chart.now)) records.now ≡ true) }
+        ensures formed { OnOk result (list_all (well_formed (layout chart.now)) records.now ≡ true) }
     {
         let mut book = ExactBook::new(*chart);
         for record in records {

@@ -1,8 +1,9 @@
 -- When entries and withdrawals are accepted.
 use Rattle.std.proofs.Common.{◌≡◌, ℕ, Bool, true, false, cond, not, ◌&&◌, eqb, List, [], ◌∷◌, is_ok, Ok, Err, Decides, Result, sym, refl, ap, ◌∙◌, ap₂, ⊎_elim}
+use Rattle.std.specs.List.{list_all}
 use Rattle.std.proofs.lemmas.Bool.{and_parts, and_from, eq-eqb, eqb-true, not-true, not_from_false, both_ways, cases_Bool}
 use Rattle.chart.specs.Questions.{asked}
-use Rattle.chart.specs.Layout.{Layout, all_of}
+use Rattle.chart.specs.Layout.{Layout}
 use Rattle.rules.specs.declared.view.RuleRecord.{RuleRecord}
 use Rattle.rules.specs.declared.refusal.RuleRefusal.{RuleRefusal}
 use Rattle.rules.specs.Rules.{rule_questions, rule_answer, well_formed}
@@ -12,11 +13,11 @@ use Rattle.broker.specs.Histories.{Answer, Among}
 use Rattle.broker.proofs.Members.{among_any, any_among}
 
 -- questions are passed just where each is answered with yes
-asked_ok : {E T : Type 0} (qs : List (Bool × E)) (t : T) → is_ok (asked qs t) ≡ all_of (λ (q : Bool × E). q.0) qs
+asked_ok : {E T : Type 0} (qs : List (Bool × E)) (t : T) → is_ok (asked qs t) ≡ list_all (λ (q : Bool × E). q.0) qs
 asked_ok [] t = refl
 asked_ok (q ∷ qs) t = go q.0 (asked_ok qs t)
   where
-    go : (b : Bool) → is_ok (asked qs t) ≡ all_of (λ r. r.0) qs → is_ok (cond b (asked qs t) (Err q.1)) ≡ (b && all_of (λ r. r.0) qs)
+    go : (b : Bool) → is_ok (asked qs t) ≡ list_all (λ r. r.0) qs → is_ok (cond b (asked qs t) (Err q.1)) ≡ (b && list_all (λ r. r.0) qs)
     go true h = h
     go false h = refl
 

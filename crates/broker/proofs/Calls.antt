@@ -1,10 +1,11 @@
 -- The calls of a broker, for every history that led to them.
 use Rattle.std.proofs.Common.{◌≡◌, ℕ, Bool, true, List, [], ◌∷◌, ◌++◌, is_ok, Option, Result, ap, ◌∙◌, subst}
+use Rattle.std.specs.List.{list_all}
 use mathlib.Core.Path.{fun_ext}
 use Rattle.std.proofs.lemmas.Bool.Decides.{Decides-like}
 use Rattle.chart.specs.declared.state.Chart.{Chart}
 use Rattle.chart.specs.Charts.{layout}
-use Rattle.chart.specs.Layout.{Layout, all_of}
+use Rattle.chart.specs.Layout.{Layout}
 use Rattle.profile.specs.declared.shape.Profile.{Profile}
 use Rattle.tariff.specs.Pricing.{Pricing}
 use Rattle.queries.specs.declared.node.Node.{Node}
@@ -38,7 +39,7 @@ module _ (l : Layout) (fits : List RuleRecord → Bool) (old new : List RuleReco
   going_on : (h : Event) (first : List RuleRecord) (t : List Event) → Reached l fits old first t → Reached l fits new first (t ++ h ∷ []) → GoesOn l fits old new h first t
   going_on h first t was then = record { reached = then; in_force_stands = in_force_stands l fits old first t was; stands_in_force = stands_in_force l fits old first t was }
 
-  pub enters : ((xs ys : List RuleRecord) → Same xs ys → fits xs ≡ fits ys) → all_of (well_formed l) new ≡ true → (r : RuleRecord) (a : Answer) → a ≡ entry_answer l fits old r → Same new (entry_list l fits old r)
+  pub enters : ((xs ys : List RuleRecord) → Same xs ys → fits xs ≡ fits ys) → list_all (well_formed l) new ≡ true → (r : RuleRecord) (a : Answer) → a ≡ entry_answer l fits old r → Same new (entry_list l fits old r)
       → Enters l fits old new r a
   enters alike formed r a e s = record {
     answers = λ rules h. e ∙ entry_answer_same l fits alike r h;
@@ -53,7 +54,7 @@ module _ (l : Layout) (fits : List RuleRecord → Bool) (old new : List RuleReco
         Decides-like (is_ok a) (λ h. (h.0, λ q k. h.1 q (st.all q k), h.2)) (λ h. (h.0, λ q k. h.1 q (st.only q k), h.2)) d;
   }
 
-  pub withdrawing : all_of (well_formed l) new ≡ true → (n : ℕ) (a : Answer) → a ≡ withdrawal_answer old n → Same new (withdrawal_list old n) → Withdraws l fits old new n a
+  pub withdrawing : list_all (well_formed l) new ≡ true → (n : ℕ) (a : Answer) → a ≡ withdrawal_answer old n → Same new (withdrawal_list old n) → Withdraws l fits old new n a
   withdrawing formed n a e s = record {
     answers = λ rules h. e ∙ withdrawal_answer_same n h;
     rules_then = λ rules h. chain s (withdrawal_list_same n h);

@@ -1,7 +1,7 @@
 -- Rules among lists, and lists with the same rules.
 use Rattle.std.proofs.Common.{◌≡◌, Bool, true, false, cond, not, eqb, ◌⊎◌, List, [], ◌∷◌, filter, sym, refl, ap, ◌∙◌, subst, inl, inr, ⊎_elim}
+use Rattle.std.specs.List.{list_any}
 use Rattle.std.proofs.lemmas.Bool.{and_parts, or_cases, or_left, or_right, eq-eqb, not-true, both_ways, false≢true}
-use Rattle.chart.specs.Layout.{any_of}
 use Rattle.rules.specs.declared.view.RuleRecord.{RuleRecord}
 use Rattle.policy.specs.Same.{Same, done, keep, swap, chain}
 use Rattle.policy.specs.Books.{in_force, apart}
@@ -18,16 +18,16 @@ among_same (swap x y xs) r (inr (inr h)) = inr (inr h)
 among_same (chain s t) r h = among_same t r (among_same s r h)
 
 -- a test that some rule of the list passes, and one that none does
-pub among_any : (p : RuleRecord → Bool) (xs : List RuleRecord) (r : RuleRecord) → Among r xs → p r ≡ true → any_of p xs ≡ true
+pub among_any : (p : RuleRecord → Bool) (xs : List RuleRecord) (r : RuleRecord) → Among r xs → p r ≡ true → list_any p xs ≡ true
 among_any p [] r h e = absurd h
-among_any p (x ∷ xs) r (inl z) e = or_left (p x) (any_of p xs) (sym (ap p z) ∙ e)
-among_any p (x ∷ xs) r (inr h) e = or_right (p x) (any_of p xs) (among_any p xs r h e)
+among_any p (x ∷ xs) r (inl z) e = or_left (p x) (list_any p xs) (sym (ap p z) ∙ e)
+among_any p (x ∷ xs) r (inr h) e = or_right (p x) (list_any p xs) (among_any p xs r h e)
 
-pub any_among : (p : RuleRecord → Bool) (xs : List RuleRecord) → any_of p xs ≡ true → (r : RuleRecord) × Among r xs × (p r ≡ true)
+pub any_among : (p : RuleRecord → Bool) (xs : List RuleRecord) → list_any p xs ≡ true → (r : RuleRecord) × Among r xs × (p r ≡ true)
 any_among p [] h = absurd (false≢true h)
-any_among p (x ∷ xs) h = go (any_among p xs) (or_cases (p x) (any_of p xs) h)
+any_among p (x ∷ xs) h = go (any_among p xs) (or_cases (p x) (list_any p xs) h)
   where
-    go : (any_of p xs ≡ true → (r : RuleRecord) × Among r xs × (p r ≡ true)) → (p x ≡ true) ⊎ (any_of p xs ≡ true) → (r : RuleRecord) × Among r (x ∷ xs) × (p r ≡ true)
+    go : (list_any p xs ≡ true → (r : RuleRecord) × Among r xs × (p r ≡ true)) → (p x ≡ true) ⊎ (list_any p xs ≡ true) → (r : RuleRecord) × Among r (x ∷ xs) × (p r ≡ true)
     go rest (inl e) = (x, inl refl, e)
     go rest (inr e) = let f = rest e in (f.0, inr f.1, f.2)
 

@@ -1,6 +1,7 @@
 -- What the calls of a broker keep, for every history that led to them.
 use Rattle.std.specs.Prelude.{◌≡◌, ℕ, Bool, true, List, [], ◌∷◌, ◌++◌, is_ok, Decides, Option, Result, ◌≢◌}
-use Rattle.chart.specs.Layout.{Layout, all_of}
+use Rattle.std.specs.List.{list_all}
+use Rattle.chart.specs.Layout.{Layout}
 use Rattle.tariff.specs.Pricing.{Pricing}
 use Rattle.queries.specs.declared.node.Node.{Node}
 use Rattle.rules.specs.declared.view.RuleRecord.{RuleRecord}
@@ -28,7 +29,7 @@ module _ (l : Layout) (fits : List RuleRecord → Bool) where
   pub record Enters (old new : List RuleRecord) (r : RuleRecord) (a : Answer) : Type 0 where
     pub answers : (rules : List RuleRecord) → Same old rules → a ≡ entry_answer l fits rules r
     pub rules_then : (rules : List RuleRecord) → Same old rules → Same new (entry_list l fits rules r)
-    pub formed : all_of (well_formed l) new ≡ true
+    pub formed : list_all (well_formed l) new ≡ true
     pub goes_on : (first : List RuleRecord) (t : List Event) → Reached l fits old first t → GoesOn old new (entered r a) first t
     pub by_standing : (first : List RuleRecord) (t : List Event) (rules : List RuleRecord) → Reached l fits old first t → Standing first t rules → a ≡ entry_answer l fits rules r
     -- accepted just where the rule passes its questions, no standing rule has its number, and the standing rules with it fit
@@ -39,7 +40,7 @@ module _ (l : Layout) (fits : List RuleRecord → Bool) where
   pub record Withdraws (old new : List RuleRecord) (n : ℕ) (a : Answer) : Type 0 where
     pub answers : (rules : List RuleRecord) → Same old rules → a ≡ withdrawal_answer rules n
     pub rules_then : (rules : List RuleRecord) → Same old rules → Same new (withdrawal_list rules n)
-    pub formed : all_of (well_formed l) new ≡ true
+    pub formed : list_all (well_formed l) new ≡ true
     pub goes_on : (first : List RuleRecord) (t : List Event) → Reached l fits old first t → GoesOn old new (withdrew n a) first t
     pub by_standing : (first : List RuleRecord) (t : List Event) (rules : List RuleRecord) → Reached l fits old first t → Standing first t rules → a ≡ withdrawal_answer rules n
     -- accepted just where a standing rule has the number
@@ -52,7 +53,7 @@ module _ (l : Layout) (fits : List RuleRecord → Bool) where
       (plan plan' : List Step) (releases releases' : List Release) (r : Result (Planned P) QueryRefusal) : Type 0 where
     pub answers : (same : List RuleRecord) → Same rules same → Queried l reading same c nodes work work' plan plan' releases releases' r
     pub judged : (same : List RuleRecord) → Same rules same → Judged c (reading same) l nodes work' plan' releases' r
-    pub formed : all_of (well_formed l) rules ≡ true
+    pub formed : list_all (well_formed l) rules ≡ true
     pub goes_on : (first : List RuleRecord) (t : List Event) → Reached l fits rules first t → GoesOn rules rules (queried nodes) first t
     pub by_standing : (first : List RuleRecord) (t : List Event) (standing : List RuleRecord) → Reached l fits rules first t → Standing first t standing
         → Queried l reading standing c nodes work work' plan plan' releases releases' r × Judged c (reading standing) l nodes work' plan' releases' r

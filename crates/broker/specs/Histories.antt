@@ -1,6 +1,7 @@
 -- Histories of calls, and which rules stand after one.
 use Rattle.std.specs.Prelude.{◌≡◌, ℕ, Bool, true, false, ◌⊎◌, List, [], ◌∷◌, Ok, Err, Result, ◌==◌}
-use Rattle.chart.specs.Layout.{Layout, any_of}
+use Rattle.std.specs.List.{list_any}
+use Rattle.chart.specs.Layout.{Layout}
 use Rattle.queries.specs.declared.node.Node.{Node}
 use Rattle.rules.specs.declared.view.RuleRecord.{RuleRecord}
 use Rattle.policy.specs.declared.refusal.BookRefusal.{BookRefusal}
@@ -30,7 +31,7 @@ withdraws n (withdrew m (Err e)) = false
 withdraws n (queried nodes) = false
 
 abbrev pub withdrawn : ℕ → List Event → Bool
-withdrawn n t = any_of (withdraws n) t
+withdrawn n t = list_any (withdraws n) t
 
 -- an accepted entry of r, and no accepted withdrawal of its number after it
 abbrev pub Entered : RuleRecord → List Event → Type 0

@@ -87,7 +87,7 @@ impl<B: Book> Broker<B> {
         ensures fitting { B.Book.fits self.new.book ≡ B.Book.fits self.old.book }
     {
         if answers.len() < calls.len() {
-            return Err(QueryRefusal::Tree(TreeRefusal::Room));
+            return Err(TreeRefusal::Room.into());
         }
         run_all(self, tariff, calls, answers, work, plan, releases);
         Ok(())

@@ -1,14 +1,14 @@
 -- What an extended chart still keeps.
 use Rattle.std.proofs.Common.{◌≡◌, ℕ, ◌+◌, ◌<◌, ◌≤◌, Bool, true, false, cond, not, ltb, leb, List, [], ◌∷◌, ◌++◌, length, take, set, Ok, Err, Option, refl, ap, ◌∙◌, arith}
 use Rattle.std.specs.Option.{option_map}
-use Rattle.std.specs.List.{AllByRecursion}
+use Rattle.std.specs.List.{AllByRecursion, list_all, list_any}
 use Rattle.std.proofs.lemmas.List.{take_more_set}
 use Rattle.std.proofs.lemmas.Bool.{and_parts, and_from, ltb-true, leb-true, lt-ltb}
 use Rattle.chart.specs.declared.parts.Attribute.{Attribute}
 use Rattle.chart.specs.declared.parts.Link.{Link}
 use Rattle.chart.specs.declared.parts.Grade.{Grade}
 use Rattle.chart.specs.declared.refusal.ChartRefusal.TheVariants.{Home, Widths, Limits, Ends, LinkLimit, LinkRepeated}
-use Rattle.chart.specs.Layout.{Layout, all_of, any_of, proper, crosses, differ, relation_in, server_known}
+use Rattle.chart.specs.Layout.{Layout, proper, crosses, differ, relation_in, server_known}
 use Rattle.chart.specs.Questions.{asked}
 use Rattle.chart.specs.Build.{columns, widths_proper, room_for, relation_answer, link_answer, joins}
 use Rattle.chart.proofs.Every.{all_append, all_mapped, all_weaker}
@@ -32,8 +32,8 @@ module _ (l : Layout) (server : ℕ) (widths : List ℕ) (n : ℕ) (yes : relati
   pub server_told : ltb server l.servers ≡ true
   server_told = told.0
 
-  pub widths_told : all_of (λ w. ltb 0 w) widths ≡ true
-  widths_told = (and_parts (ltb 0 (length widths)) (all_of (λ w. ltb 0 w) widths) told.1.0).1
+  pub widths_told : list_all (λ w. ltb 0 w) widths ≡ true
+  widths_told = (and_parts (ltb 0 (length widths)) (list_all (λ w. ltb 0 w) widths) told.1.0).1
 
   pub relations_told : length l.homes < 32
   relations_told = ltb-true (length l.homes) 32 (and_parts (ltb (length l.homes) 32) (leb (length l.attributes + length widths) 64) told.1.1.0).0
@@ -43,8 +43,8 @@ module _ (l : Layout) (server : ℕ) (widths : List ℕ) (n : ℕ) (yes : relati
 
 -- what the questions for a link told
 module _ (l : Layout) (a b n : ℕ) (yes : link_answer l a b ≡ Ok n) where
-  asked_link : (crosses l.attributes a b ≡ true) × ((ltb (length l.links) 64 ≡ true) × ((not (any_of (joins a b) l.links) ≡ true) × Unit {0}))
-  asked_link = all_yes ((crosses l.attributes a b, Ends) ∷ (ltb (length l.links) 64, LinkLimit) ∷ (not (any_of (joins a b) l.links), LinkRepeated) ∷ []) (length l.links) n yes
+  asked_link : (crosses l.attributes a b ≡ true) × ((ltb (length l.links) 64 ≡ true) × ((not (list_any (joins a b) l.links) ≡ true) × Unit {0}))
+  asked_link = all_yes ((crosses l.attributes a b, Ends) ∷ (ltb (length l.links) 64, LinkLimit) ∷ (not (list_any (joins a b) l.links), LinkRepeated) ∷ []) (length l.links) n yes
 
   pub crosses_told : crosses l.attributes a b ≡ true
   crosses_told = asked_link.0
@@ -67,22 +67,22 @@ proper_more n x h =
     let r = ltb-true x.relation n p.0 in
     and_from (ltb x.relation (n + 1)) (ltb 0 x.width) (lt-ltb x.relation (n + 1) (omega arith)) p.1
 
-pub columns_proper : (n : ℕ) (widths : List ℕ) → all_of (λ w. ltb 0 w) widths ≡ true → all_of (proper (n + 1)) (columns n widths) ≡ true
+pub columns_proper : (n : ℕ) (widths : List ℕ) → list_all (λ w. ltb 0 w) widths ≡ true → list_all (proper (n + 1)) (columns n widths) ≡ true
 columns_proper n widths h =
     all_mapped (λ w. ltb 0 w) (proper (n + 1)) (λ w. record { relation = n; width = w })
     (λ w k. and_from (ltb n (n + 1)) (ltb 0 w) (lt-ltb n (n + 1) (omega arith)) k) widths h
 
-pub owned_more : (n : ℕ) (xs : List Attribute) (widths : List ℕ) → all_of (proper n) xs ≡ true → all_of (λ w. ltb 0 w) widths ≡ true → all_of (proper (n + 1)) (xs ++ columns n widths) ≡ true
+pub owned_more : (n : ℕ) (xs : List Attribute) (widths : List ℕ) → list_all (proper n) xs ≡ true → list_all (λ w. ltb 0 w) widths ≡ true → list_all (proper (n + 1)) (xs ++ columns n widths) ≡ true
 owned_more n xs widths old new = all_append (proper (n + 1)) xs (columns n widths) (all_weaker (proper n) (proper (n + 1)) (proper_more n) xs old) (columns_proper n widths new)
 
-pub crossed_more : (xs ys : List Attribute) (links : List Link) → all_of (λ x. crosses xs x.left x.right) links ≡ true → all_of (λ x. crosses (xs ++ ys) x.left x.right) links ≡ true
+pub crossed_more : (xs ys : List Attribute) (links : List Link) → list_all (λ x. crosses xs x.left x.right) links ≡ true → list_all (λ x. crosses (xs ++ ys) x.left x.right) links ≡ true
 crossed_more xs ys links h =
     all_weaker (λ x. crosses xs x.left x.right) (λ x. crosses (xs ++ ys) x.left x.right) (λ x k. crosses_more xs ys x.left x.right k) links h
 
 -- one more element that passes, written behind the first n
-pub front_more : {X : Type 0} (p : X → Bool) (xs : List X) (n : ℕ) (x : X) → n < length xs → all_of p (take n xs) ≡ true → p x ≡ true → all_of p (take (n + 1) (set xs n x)) ≡ true
+pub front_more : {X : Type 0} (p : X → Bool) (xs : List X) (n : ℕ) (x : X) → n < length xs → list_all p (take n xs) ≡ true → p x ≡ true → list_all p (take (n + 1) (set xs n x)) ≡ true
 front_more p xs n x room old new =
-    ap (all_of p) (take_more_set xs n x room) ∙ all_append p (take n xs) (x ∷ []) old (and_from (p x) true new refl)
+    ap (list_all p) (take_more_set xs n x room) ∙ all_append p (take n xs) (x ∷ []) old (and_from (p x) true new refl)
 
 abbrev laid_by : ℕ → List ℕ → List Attribute → List Link → List Grade → Layout
 laid_by s hs xs ls gs = record { servers = s; homes = hs; attributes = xs; links = ls; grades = gs }

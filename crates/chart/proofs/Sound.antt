@@ -1,26 +1,26 @@
 -- What is known of the parts of a chart.
 use Rattle.std.proofs.Common.{◌≡◌, ℕ, zero, suc, ◌<◌, Bool, true, eqb, ltb, List, [], ◌∷◌, length, is_some, IfSome, Some, None, Option, sym, refl, ap, ◌∙◌, subst, inl, inr, arith}
 use Rattle.std.specs.Option.{option_map}
-use Rattle.std.specs.List.{AllByRecursion, slice_get}
+use Rattle.std.specs.List.{AllByRecursion, slice_get, list_all}
 use Rattle.std.proofs.lemmas.List.{length-take}
 use Rattle.std.proofs.lemmas.Option.{slice_get_past}
 use Rattle.std.proofs.lemmas.Bool.{and_parts, ltb-true, eq-eqb, not-true, both_ways, false≢true, cases_lt}
 use Rattle.chart.specs.declared.parts.Attribute.{Attribute}
 use Rattle.chart.specs.declared.parts.Link.{Link}
 use Rattle.chart.specs.declared.state.Chart.{Chart}
-use Rattle.chart.specs.Layout.{all_of, proper, crosses, differ, relation_in}
+use Rattle.chart.specs.Layout.{proper, crosses, differ, relation_in}
 use Rattle.chart.specs.Charts.{layout}
 use Rattle.chart.specs.Sound.{Sound}
 
-pub all_at : {X : Type 0} (p : X → Bool) (xs : List X) → all_of p xs ≡ true → (k : ℕ) → IfSome (slice_get xs k) (λ x. p x ≡ true)
+pub all_at : {X : Type 0} (p : X → Bool) (xs : List X) → list_all p xs ≡ true → (k : ℕ) → IfSome (slice_get xs k) (λ x. p x ≡ true)
 all_at p [] h k = tt
-all_at p (y ∷ ys) h zero = (and_parts (p y) (all_of p ys) h).0
-all_at p (y ∷ ys) h (suc k) = all_at p ys (and_parts (p y) (all_of p ys) h).1 k
+all_at p (y ∷ ys) h zero = (and_parts (p y) (list_all p ys) h).0
+all_at p (y ∷ ys) h (suc k) = all_at p ys (and_parts (p y) (list_all p ys) h).1 k
 
 -- each element passes, so what a passing test tells holds of each
-pub all_told : {X : Type 0} (p : X → Bool) (P : X → Type 0) → ((x : X) → p x ≡ true → P x) → (xs : List X) → all_of p xs ≡ true → AllByRecursion P xs
+pub all_told : {X : Type 0} (p : X → Bool) (P : X → Type 0) → ((x : X) → p x ≡ true → P x) → (xs : List X) → list_all p xs ≡ true → AllByRecursion P xs
 all_told p P tells [] h = tt
-all_told p P tells (x ∷ xs) h = let b = and_parts (p x) (all_of p xs) h in (tells x b.0, all_told p P tells xs b.1)
+all_told p P tells (x ∷ xs) h = let b = and_parts (p x) (list_all p xs) h in (tells x b.0, all_told p P tells xs b.1)
 
 told_more : {X : Type 0} (o : Option X) (P Q : X → Type 0) → ((x : X) → P x → Q x) → IfSome o P → IfSome o Q
 told_more None P Q more h = tt

@@ -1,5 +1,6 @@
 -- What a chart answers when it is made or extended, and what it then holds.
 use Rattle.std.specs.Prelude.{ℕ, ◌+◌, Bool, not, ◌&&◌, ◌||◌, ltb, List, [], ◌∷◌, ◌++◌, map, length, replicate, Ok, Err, Result, ◌==◌, nat_le, nat_lt, slice_set}
+use Rattle.std.specs.List.{list_all, list_any}
 use Rattle.chart.specs.declared.parts.Attribute.{Attribute}
 use Rattle.chart.specs.declared.parts.Link.{Link}
 use Rattle.chart.specs.declared.parts.Grade.{Grade}
@@ -8,7 +9,7 @@ use Rattle.chart.specs.declared.refusal.ChartRefusal.{ChartRefusal}
 use Rattle.chart.specs.declared.refusal.ChartRefusal.TheVariants.{Servers, Home, Widths, Limits, Ends, LinkLimit, LinkRepeated, Line}
 use Rattle.chart.specs.declared.state.Chart.{Chart}
 use Rattle.chart.specs.Questions.{asked}
-use Rattle.chart.specs.Layout.{Layout, all_of, any_of, server_known, crosses}
+use Rattle.chart.specs.Layout.{Layout, server_known, crosses}
 use Rattle.chart.specs.Lookup.{line_place, line_known}
 use Rattle.chart.specs.Charts.{layout}
 
@@ -47,7 +48,7 @@ with_relation l server widths = record {
 
 -- at least one width, and none 0
 abbrev pub widths_proper : List ℕ → Bool
-widths_proper widths = nat_lt 0 (length widths) && all_of (λ w. ltb 0 w) widths
+widths_proper widths = nat_lt 0 (length widths) && list_all (λ w. ltb 0 w) widths
 
 -- at most 32 relations and 64 attributes with this one
 abbrev pub room_for : Layout → List ℕ → Bool
@@ -79,7 +80,7 @@ abbrev pub link_answer : Layout → ℕ → ℕ → Result ℕ ChartRefusal
 link_answer l a b = asked (
     (crosses l.attributes a b, Ends) ∷
     (nat_lt (length l.links) 64, LinkLimit) ∷
-    (not (any_of (joins a b) l.links), LinkRepeated) ∷ []) (length l.links)
+    (not (list_any (joins a b) l.links), LinkRepeated) ∷ []) (length l.links)
 
 -- another grade for one line
 abbrev pub with_grade : Layout → ℕ → ℕ → Grade → Layout

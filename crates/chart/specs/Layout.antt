@@ -1,7 +1,7 @@
 -- What a chart declares, as lists in the order of declaration: a thing's number is its place in its list.
 use Rattle.std.specs.Prelude.{ℕ, Bool, false, not, ◌&&◌, List, take, Some, None, Option, ◌==◌, nat_lt}
 use Rattle.std.specs.Option.{option_map}
-use Rattle.std.specs.List.{slice_get, list_all, list_any}
+use Rattle.std.specs.List.{slice_get}
 use Rattle.chart.specs.declared.parts.Attribute.{Attribute}
 use Rattle.chart.specs.declared.parts.Link.{Link}
 use Rattle.chart.specs.declared.parts.Grade.{Grade}
@@ -25,13 +25,6 @@ laid servers relations homes attributes columns joined links grades = record {
   links = take joined links;
   grades = grades;
 }
-
--- every element passes; some element passes
-abbrev pub all_of : {X : Type 0} → (X → Bool) → List X → Bool
-all_of = list_all
-
-abbrev pub any_of : {X : Type 0} → (X → Bool) → List X → Bool
-any_of = list_any
 
 abbrev pub server_known : Layout → ℕ → Bool
 server_known l s = nat_lt s l.servers

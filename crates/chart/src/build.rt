@@ -1,5 +1,6 @@
 ghost use Rattle.std.specs.Prelude.{◌≡◌, ℕ, ◌+◌, ◌<◌, ◌≤◌, true, false, ◌&&◌, ◌++◌, length, take, is_ok, if◌then◌else◌, Ok, nat_lt};
-ghost use Rattle.chart.specs.Layout.{all_of, any_of, crosses};
+ghost use Rattle.std.specs.List.{list_all, list_any};
+ghost use Rattle.chart.specs.Layout.{crosses};
 ghost use Rattle.chart.specs.Lookup.{line_known, same_line, grade_of};
 ghost use Rattle.chart.specs.Build.{settled, bare, new_answer, laid_out, columns, relation_answer, with_relation, link_answer, with_link, joins, grade_answer, with_grade};
 ghost use Rattle.chart.specs.Charts.{layout};
@@ -36,7 +37,7 @@ fn bare_chart(servers: u16) -> Chart
 
 // Whether no width is 0.
 fn all_positive(widths: &[u16]) -> bool
-    ensures { result ≡ all_of (λ w. nat_lt 0 w) widths.now }
+    ensures { result ≡ list_all (λ w. nat_lt 0 w) widths.now }
 {
     widths.iter().all(|width| *width != 0)
 }
@@ -85,7 +86,7 @@ fn put_relation(chart: &mut Chart, server: u16, widths: &[u16])
 
 // Whether two attributes are linked already, either way round.
 fn is_linked(links: &[Link], a: u16, b: u16) -> bool
-    ensures { result ≡ any_of (joins a b) links.now }
+    ensures { result ≡ list_any (joins a b) links.now }
 {
     links.iter().any(|link| same_pair(*link, a, b))
 }

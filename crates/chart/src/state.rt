@@ -1,5 +1,6 @@
 ghost use Rattle.std.specs.Prelude.{◌≡◌, ◌<◌, ◌≤◌, true, length, take, nat_lt};
-ghost use Rattle.chart.specs.Layout.{all_of, proper, crosses};
+ghost use Rattle.std.specs.List.{list_all};
+ghost use Rattle.chart.specs.Layout.{proper, crosses};
 
 use crate::parts::{Attribute, Grade, Link};
 
@@ -18,7 +19,7 @@ pub struct Chart {
     ghost sized: { (length homes ≡ 32) × (length attributes ≡ 64) × (length links ≡ 64) × (length grades ≡ 256) },
     ghost counted: { (relation_count ≤ 32) × (attribute_count ≤ 64) × (link_count ≤ 64) },
     ghost manned: { (0 < servers) × (servers ≤ 16) },
-    ghost homed: { all_of (λ s. nat_lt s servers) (take relation_count homes) ≡ true },
-    ghost owned: { all_of (proper relation_count) (take attribute_count attributes) ≡ true },
-    ghost crossed: { all_of (λ x. crosses (take attribute_count attributes) x.left x.right) (take link_count links) ≡ true },
+    ghost homed: { list_all (λ s. nat_lt s servers) (take relation_count homes) ≡ true },
+    ghost owned: { list_all (proper relation_count) (take attribute_count attributes) ≡ true },
+    ghost crossed: { list_all (λ x. crosses (take attribute_count attributes) x.left x.right) (take link_count links) ≡ true },
 }

@@ -1,5 +1,6 @@
 -- The composed reading keeps the laws of a policy: the term that the book gives for `lawful`, with what it needs.
 use Rattle.std.specs.Prelude.{◌≡◌, ℕ, ◌<◌, Bool, true, false, ◌||◌, ◌⊎◌, List, [], ◌∷◌, length, refl}
+use Rattle.std.specs.List.{list_all, list_any}
 use Rattle.std.proofs.Common.{sym, ap, subst, ◌∙◌, inl, inr}
 use Rattle.std.proofs.lemmas.Bool.{eqb-true, and_parts, or_cases, or_left, or_right, cases_Bool, both_ways, false≢true, lt-ltb, cases_lt}
 use Rattle.sets.specs.Sets.{union, single, subset, below}
@@ -7,7 +8,7 @@ use Rattle.sets.proofs.Bits.{bit_low}
 use Rattle.sets.proofs.Sets.{union_least, has_subset, single_has}
 use Rattle.chart.specs.declared.state.Chart.{Chart}
 use Rattle.chart.specs.Charts.{layout}
-use Rattle.chart.specs.Layout.{Layout, all_of, any_of, server_known}
+use Rattle.chart.specs.Layout.{Layout, server_known}
 use Rattle.chart.specs.Lookup.{attributes_known, links_known}
 use Rattle.profile.specs.declared.shape.Profile.{Profile}
 use Rattle.rules.specs.declared.view.View.{View}
@@ -28,28 +29,28 @@ use Rattle.policy.proofs.Orders.{same_sym}
 use Rattle.composed.specs.Composed.{composed_reading, composed_members}
 
 -- a view of the list that passes makes the test of the list pass, and the other way round
-any_true : (p : View → Bool) (xs : List View) → any_of p xs ≡ true → (v : View) × (among v xs ≡ true) × (p v ≡ true)
+any_true : (p : View → Bool) (xs : List View) → list_any p xs ≡ true → (v : View) × (among v xs ≡ true) × (p v ≡ true)
 any_true p [] h = absurd (false≢true h)
-any_true p (x ∷ xs) h = go (or_cases (p x) (any_of p xs) h) (any_true p xs)
+any_true p (x ∷ xs) h = go (or_cases (p x) (list_any p xs) h) (any_true p xs)
   where
-    go : (p x ≡ true) ⊎ (any_of p xs ≡ true) → (any_of p xs ≡ true → (v : View) × (among v xs ≡ true) × (p v ≡ true)) → (v : View) × (among v (x ∷ xs) ≡ true) × (p v ≡ true)
+    go : (p x ≡ true) ⊎ (list_any p xs ≡ true) → (list_any p xs ≡ true → (v : View) × (among v xs ≡ true) × (p v ≡ true)) → (v : View) × (among v (x ∷ xs) ≡ true) × (p v ≡ true)
     go (inl here) rest = (x, among_here x xs, here)
     go (inr later) rest = let r = rest later in (r.0, or_right (same_view r.0 x) (among r.0 xs) r.1, r.2)
 
-true_any : (p : View → Bool) (xs : List View) (v : View) → among v xs ≡ true → p v ≡ true → any_of p xs ≡ true
+true_any : (p : View → Bool) (xs : List View) (v : View) → among v xs ≡ true → p v ≡ true → list_any p xs ≡ true
 true_any p [] v there passes = absurd (false≢true there)
 true_any p (x ∷ xs) v there passes = go (or_cases (same_view v x) (among v xs) there) (λ later. true_any p xs v later passes)
   where
-    go : (same_view v x ≡ true) ⊎ (among v xs ≡ true) → (among v xs ≡ true → any_of p xs ≡ true) → any_of p (x ∷ xs) ≡ true
-    go (inl here) rest = or_left (p x) (any_of p xs) (ap p (sym (same_view_is v x here)) ∙ passes)
-    go (inr later) rest = or_right (p x) (any_of p xs) (rest later)
+    go : (same_view v x ≡ true) ⊎ (among v xs ≡ true) → (among v xs ≡ true → list_any p xs ≡ true) → list_any p (x ∷ xs) ≡ true
+    go (inl here) rest = or_left (p x) (list_any p xs) (ap p (sym (same_view_is v x here)) ∙ passes)
+    go (inr later) rest = or_right (p x) (list_any p xs) (rest later)
 
-pub any_within : (p : View → Bool) (xs ys : List View) → Within xs ys → any_of p xs ≡ true → any_of p ys ≡ true
+pub any_within : (p : View → Bool) (xs ys : List View) → Within xs ys → list_any p xs ≡ true → list_any p ys ≡ true
 any_within p xs ys within h = let r = any_true p xs h in true_any p ys r.0 (within r.0 r.1) r.2
 
 -- lists with the same views read alike
-pub any_alike : (p : View → Bool) (xs ys : List View) → Within xs ys → Within ys xs → any_of p xs ≡ any_of p ys
-any_alike p xs ys there back = iff_same (any_of p xs) (any_of p ys) (any_within p xs ys there) (any_within p ys xs back)
+pub any_alike : (p : View → Bool) (xs ys : List View) → Within xs ys → Within ys xs → list_any p xs ≡ list_any p ys
+any_alike p xs ys there back = iff_same (list_any p xs) (list_any p ys) (any_within p xs ys there) (any_within p ys xs back)
 
 -- rules that are the same up to order grant the same views
 pub granted_within : {xs ys : List RuleRecord} → Same xs ys → Within (granted xs) (granted ys)
@@ -94,10 +95,10 @@ both_known l a b k may p q =
       links = union_least (union a.path b.path) (single k) links (union_least a.path b.path links p.links q.links) (single_known (length l.links) k (link_below l a b k may));
     }
 
-granted_known : (l : Layout) (rules : List RuleRecord) → all_of (well_formed l) rules ≡ true → (v : View) → among v (granted rules) ≡ true → Known l v
+granted_known : (l : Layout) (rules : List RuleRecord) → list_all (well_formed l) rules ≡ true → (v : View) → among v (granted rules) ≡ true → Known l v
 granted_known l [] formed v there = absurd (false≢true there)
 granted_known l (r ∷ rules) formed v there =
-    let b = and_parts (well_formed l r) (all_of (well_formed l) rules) formed in
+    let b = and_parts (well_formed l r) (list_all (well_formed l) rules) formed in
     go b.0 (or_cases (same_view v r.view) (among v (granted rules)) there) (granted_known l rules b.1 v)
   where
     go : well_formed l r ≡ true → (same_view v r.view ≡ true) ⊎ (among v (granted rules) ≡ true) → (among v (granted rules) ≡ true → Known l v) → Known l v
@@ -106,12 +107,12 @@ granted_known l (r ∷ rules) formed v there =
         subst (Known l) (sym (same_view_is v r.view here)) (record { server = p.0; attributes = p.1; links = p.2 })
     go fine (inr later) rest = rest later
 
-member_known : (l : Layout) (rules : List RuleRecord) → all_of (well_formed l) rules ≡ true → {v : View} → Member l (granted rules) v → Known l v
+member_known : (l : Layout) (rules : List RuleRecord) → list_all (well_formed l) rules ≡ true → {v : View} → Member l (granted rules) v → Known l v
 member_known l rules formed {v} (listed there) = granted_known l rules formed v there
 member_known l rules formed (composed {a} {b} k p q may) = both_known l a b k may (member_known l rules formed p) (member_known l rules formed q)
 
 -- outside the chart no member lets anything be seen
-composed_outside : (l : Layout) (rules : List RuleRecord) → all_of (well_formed l) rules ≡ true → (server : ℕ) (p : Profile) → inside l server p ≡ false → composed_reading l rules server p ≡ false
+composed_outside : (l : Layout) (rules : List RuleRecord) → list_all (well_formed l) rules ≡ true → (server : ℕ) (p : Profile) → inside l server p ≡ false → composed_reading l rules server p ≡ false
 composed_outside l rules formed server p out = elim (cases_Bool (composed_reading l rules server p)) [
   | inl lets ↦
       let m = any_true (view_lets server p) (composed_members l rules) lets in
@@ -120,7 +121,7 @@ composed_outside l rules formed server p out = elim (cases_Bool (composed_readin
   | inr not_let ↦ not_let
 ]
 
-pub composed_lawful : (chart : Chart) (rules : List RuleRecord) → apart rules ≡ true → all_of (well_formed (layout chart)) rules ≡ true → Lawful chart rules (composed_reading (layout chart))
+pub composed_lawful : (chart : Chart) (rules : List RuleRecord) → apart rules ≡ true → list_all (well_formed (layout chart)) rules ≡ true → Lawful chart rules (composed_reading (layout chart))
 composed_lawful chart rules distinct formed = record {
   order = λ xs ys same server p. any_alike (view_lets server p) (composed_members (layout chart) xs) (composed_members (layout chart) ys)
       (members_more chart (granted xs) (granted ys) (granted_within same)) (members_more chart (granted ys) (granted xs) (granted_within (same_sym same)));

@@ -85,7 +85,8 @@ impl MemberTable {
         Some(())
     }
 
-    // Composes each view with all before it, and so on with what is added, until no view is left to compose.
+    // Composes each view with all before it, and so on with what is added, until no view is left to compose: the table
+    // grows as it is walked.
     fn close(&mut self, chart: &Chart) -> Option<()>
         ensures { (given : List View) → Growing (layout chart.now) given (listed self.old) 0 → MatchOption result (256 < length (members (layout chart.now) given)) (λ u. Holds (layout chart.now) given self.new.places self.new.count) }
     {

@@ -1,13 +1,11 @@
 -- Questions asked one after another.
-use Rattle.std.proofs.Common.{◌≡◌, ℕ, ◌+◌, ◌<◌, ◌≤◌, Bool, true, false, cond, ltb, List, [], ◌∷◌, ◌++◌, length, get_or, drop, Ok, Err, sym, refl, ap, ◌∙◌}
+use Rattle.std.proofs.Common.{◌≡◌, ℕ, ◌+◌, ◌<◌, ◌≤◌, Bool, true, false, cond, List, [], ◌∷◌, ◌++◌, length, get_or, drop, Ok, Err, sym, refl, ap, ◌∙◌}
 use Rattle.std.proofs.lemmas.List.{at_drop_more, at_drop_all}
-use Rattle.std.proofs.lemmas.Bool.{ltb-true}
 use Rattle.chart.specs.Questions.{asked}
 use Rattle.chart.specs.Layout.{Layout}
 use Rattle.layers.specs.declared.denial.Denial.{Denial}
 use Rattle.layers.specs.declared.refusal.LayerRefusal.{LayerRefusal}
-use Rattle.layers.specs.declared.refusal.LayerRefusal.TheVariants.{Unfit, TooMany}
-use Rattle.layers.specs.Questions.{fit, denial_questions, denial_answer, denials_questions, denials_answer}
+use Rattle.layers.specs.Questions.{denial_questions, denial_answer, denials_questions, denials_answer}
 
 module _ {E T : Type 0} (t : T) where
   asked_refused : (qs rs : List (Bool × E)) (e : E) → asked qs t ≡ Err e → asked (qs ++ rs) t ≡ Err e
@@ -25,15 +23,6 @@ module _ {E T : Type 0} (t : T) where
       go : (b : Bool) → cond b (asked qs t) (Err q.1) ≡ Ok t → (asked qs t ≡ Ok t → asked (qs ++ rs) t ≡ asked rs t) → cond b (asked (qs ++ rs) t) (Err q.1) ≡ asked rs t
       go true k rest = rest k
       go false k rest = cc
-
--- a denial that was accepted is one of 32
-pub held_below : (l : Layout) (i : ℕ) (d : Denial) → Ok tt ≡ denial_answer l i d → i < 32
-held_below l i d h = ltb-true i 32 (go (fit l d) (ltb i 32) h)
-  where
-    go : (a b : Bool) → Ok (tt {0}) ≡ asked ((a, Unfit) ∷ (b, TooMany) ∷ []) (tt {0}) → b ≡ true
-    go true true k = refl
-    go true false k = cc
-    go false b k = cc
 
 -- a loop that asks the questions for denial i
 module _ (l : Layout) (ds : List Denial) (i : ℕ) (so_far : asked (denials_questions l i (drop i ds)) tt ≡ denials_answer l ds) where

@@ -1,30 +1,29 @@
 -- What it means that some denial forbids a profile.
 use Rattle.std.proofs.Common.{◌≡◌, ℕ, zero, suc, Bool, true, false, eqb, ◌⊎◌, List, [], ◌∷◌, Decides, sym, refl, ap, ◌∙◌, inl, inr, ⊎_elim, arith}
-use Rattle.std.specs.List.{ContainsAt as Has}
+use Rattle.std.specs.List.{ContainsAt as Has, list_any}
 use Rattle.std.proofs.lemmas.Bool.{and_parts, and_from, or_cases, or_left, or_right, eqb-true, eq-eqb}
 use Rattle.sets.specs.declared.small_set.SmallSet.{SmallSet}
 use Rattle.sets.specs.Sets.{has, union, subset}
 use Rattle.sets.proofs.Sets.{subset_has, has_subset, union_has}
-use Rattle.chart.specs.Layout.{any_of}
 use Rattle.profile.specs.declared.shape.Profile.{Profile}
 use Rattle.layers.specs.declared.denial.Denial.{Denial}
 use Rattle.layers.specs.Readings.{hits, denied, Denied}
 
 -- some element passes, and that element
 module _ {X : Type 0} (p : X → Bool) where
-  pub any_has : (xs : List X) (x : X) → Has xs x → p x ≡ true → any_of p xs ≡ true
+  pub any_has : (xs : List X) (x : X) → Has xs x → p x ≡ true → list_any p xs ≡ true
   any_has [] x (k, below, at) passes = absurd (omega arith)
-  any_has (y ∷ ys) x (zero, below, at) passes = or_left (p y) (any_of p ys) (ap p (at x) ∙ passes)
-  any_has (y ∷ ys) x (suc k, below, at) passes = or_right (p y) (any_of p ys) (any_has ys x (k, omega arith, at) passes)
+  any_has (y ∷ ys) x (zero, below, at) passes = or_left (p y) (list_any p ys) (ap p (at x) ∙ passes)
+  any_has (y ∷ ys) x (suc k, below, at) passes = or_right (p y) (list_any p ys) (any_has ys x (k, omega arith, at) passes)
 
-  pub has_any : (xs : List X) → any_of p xs ≡ true → (x : X) × Has xs x × (p x ≡ true)
+  pub has_any : (xs : List X) → list_any p xs ≡ true → (x : X) × Has xs x × (p x ≡ true)
   has_any [] h = absurd (omega (arith, never h))
     where
       never : false ≡ true → ◌≡◌ {A = ℕ} 0 1
       never e = cc
-  has_any (y ∷ ys) h = go (or_cases (p y) (any_of p ys) h) (has_any ys)
+  has_any (y ∷ ys) h = go (or_cases (p y) (list_any p ys) h) (has_any ys)
     where
-      go : (p y ≡ true) ⊎ (any_of p ys ≡ true) → (any_of p ys ≡ true → (x : X) × Has ys x × (p x ≡ true)) → (x : X) × Has (y ∷ ys) x × (p x ≡ true)
+      go : (p y ≡ true) ⊎ (list_any p ys ≡ true) → (list_any p ys ≡ true → (x : X) × Has ys x × (p x ≡ true)) → (x : X) × Has (y ∷ ys) x × (p x ≡ true)
       go (inl here) rest = (y, (0, omega arith, λ d. refl), here)
       go (inr later) rest = let (x, (k, below, at), passes) = rest later in (x, (suc k, omega arith, at), passes)
 

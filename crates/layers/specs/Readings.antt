@@ -1,8 +1,8 @@
 -- What denials forbid, and what a carrier may see.
 use Rattle.std.specs.Prelude.{◌≡◌, ℕ, Bool, true, false, not, ◌&&◌, ◌||◌, ◌⊎◌, List, Some, None, Option, ◌==◌}
-use Rattle.std.specs.List.{ContainsAt as Has}
+use Rattle.std.specs.List.{ContainsAt as Has, list_any}
 use Rattle.sets.specs.Sets.{has, union, subset}
-use Rattle.chart.specs.Layout.{Layout, any_of}
+use Rattle.chart.specs.Layout.{Layout}
 use Rattle.profile.specs.declared.shape.Profile.{Profile}
 use Rattle.rules.specs.declared.view.RuleRecord.{RuleRecord}
 use Rattle.policy.specs.Reading.{inside}
@@ -14,7 +14,7 @@ hits server p d = d.server == server && subset d.attributes (union p.shown p.fil
 
 -- some denial forbids it
 abbrev pub denied : List Denial → ℕ → Profile → Bool
-denied ds server p = any_of (hits server p) ds
+denied ds server p = list_any (hits server p) ds
 
 -- The same in words: some denial is for this server, and each of its attributes is shown or filtered.
 abbrev pub Denied : List Denial → ℕ → Profile → Type 0

@@ -1,6 +1,6 @@
-// The constructors. Their contracts cite the impls, which cite the structs, so they stand in a file of their own.
-// In them `f` says which lists fit the policy below, where that is a book; `j` and `k` are the methods of the policy
-// below, which no ghost member of a layer looks at.
+// The constructors. The clause `fitting` cites the impls of Book, which cite the structs, so they stand in a file of their
+// own; a quote in its place would ask that the policy below be a book. In it `f` says which lists fit the policy below,
+// where that is a book; `j` and `k` are the methods of that policy, which no ghost member of a layer looks at.
 ghost use Rattle.std.specs.Prelude.{◌≡◌, Bool, List, IfOk};
 ghost use mir.Syntax.{Dict};
 ghost use Rattle.chart.specs.Charts.{layout};

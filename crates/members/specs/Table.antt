@@ -1,5 +1,5 @@
 -- What a table of 256 places holds at its front.
-use Rattle.std.specs.Prelude.{◌≡◌, ℕ, ◌<◌, ◌≤◌, true, List, length, take, Option, MatchOption}
+use Rattle.std.specs.Prelude.{◌≡◌, ℕ, ◌≤◌, true, List, length, take}
 use Rattle.sets.specs.Sets.{none}
 use Rattle.chart.specs.Layout.{Layout}
 use Rattle.rules.specs.declared.view.View.{View}
@@ -9,20 +9,12 @@ use Rattle.members.specs.Members.{among, Distinct, Member, members}
 abbrev pub no_view : View
 no_view = record { server = 0; attributes = none; path = none }
 
--- the first n places are this list, or it is too long for the table
-abbrev pub Filled : Option ℕ → List View → List View → Type 0
-Filled r table xs = MatchOption r (256 < length xs) (λ n. (n ≤ 256) × (take n table ≡ xs))
-
 -- the first n places are the members, each once
 pub record Holds (l : Layout) (given table : List View) (n : ℕ) : Type 0 where
   pub fits : n ≤ 256
   pub all : n ≡ length (members l given)
   pub distinct : Distinct (take n table)
   pub just : (y : View) → among y (take n table) ≡ among y (members l given)
-
--- the table holds the members, or there are too many of them
-abbrev pub Grown : Layout → List View → List View → Option ℕ → Type 0
-Grown l given table r = MatchOption r (256 < length (members l given)) (Holds l given table)
 
 -- a list of members that has the given views, and of which the first i have been composed with one another
 pub record Growing (l : Layout) (given xs : List View) (i : ℕ) : Type 0 where

@@ -1,7 +1,8 @@
 ghost use Rattle.std.specs.Prelude.{◌≡◌, true, [], ◌∷◌, nat_le};
+ghost use Rattle.std.specs.List.{list_all, list_any};
 ghost use Rattle.std.proofs.Common.{ap, rules, arith};
 ghost use Rattle.chart.specs.Charts.{layout};
-ghost use Rattle.chart.specs.Layout.{Layout, all_of, any_of};
+ghost use Rattle.chart.specs.Layout.{Layout};
 ghost use Rattle.rules.specs.Rules.{well_formed};
 ghost use Rattle.policy.specs.Reading.{inside};
 ghost use Rattle.policy.specs.Books.{place_answer, rules_after, entry_answer, entry_list, withdrawal_answer, withdrawal_list};
@@ -20,12 +21,12 @@ use rules::{Rule, RuleRecord, check_rule};
 pub struct SingleRuleBook {
     chart: Chart,
     rule: Option<Rule>,
-    ghost formed: { all_of (well_formed (layout chart)) (rules_of rule) ≡ true },
+    ghost formed: { list_all (well_formed (layout chart)) (rules_of rule) ≡ true },
 }
 
 // Whether the rule, if there is one, lets the server see the profile.
 fn lets(rule: &Option<Rule>, server: u16, profile: &Profile) -> bool
-    ensures { result ≡ any_of (rule_lets server profile.now) (rules_of rule.now) }
+    ensures { result ≡ list_any (rule_lets server profile.now) (rules_of rule.now) }
 {
     rule.is_some_and(|rule| {
         let view = rule.given.view;

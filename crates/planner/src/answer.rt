@@ -4,6 +4,7 @@ ghost use Rattle.planner.specs.Refusals.{refusal_number, refusal_place};
 
 use queries::TreeRefusal;
 use search::Blocked;
+use thiserror::Error;
 
 // What a plan returns: the executor of the root, the price, and how many releases were listed.
 #[derive(Clone, Copy)]
@@ -14,11 +15,13 @@ pub struct Planned<P> {
 }
 
 // Why a query is not planned.
-#[derive(Clone, Copy)]
+#[derive(Clone, Copy, Debug, PartialEq, Eq, Error)]
 pub enum QueryRefusal {
     // the query does not pass its questions
+    #[error(transparent)]
     Tree(TreeRefusal),
-    // no safe assignment: the lowest node whose own subtree has none
+    // the lowest node whose own subtree has no safe assignment
+    #[error("node {0}: no safe assignment")]
     Blocked(u16),
 }
 

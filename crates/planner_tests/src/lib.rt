@@ -132,10 +132,11 @@ mod tests {
     }
 
     // Number and place of a refusal, and how many places of the buffers it wrote.
-    fn refused<P: Policy>(policy: &P, nodes: [Node; 4]) -> ((u16, u16), (usize, usize, usize)) {
+    fn refused<P: Policy>(policy: &P, nodes: [Node; 4]) -> (u16, u16, usize) {
         let mut lent = unwritten();
-        let answer = ask(policy, &nodes, &mut lent);
-        (answer.err().unwrap_or((0, 0)), written(&lent))
+        let (number, place) = ask(policy, &nodes, &mut lent).err().unwrap_or((0, 0));
+        let (work, plan, releases) = written(&lent);
+        (number, place, work.saturating_add(plan).saturating_add(releases))
     }
 
     #[test]
@@ -160,7 +161,7 @@ mod tests {
             ([a, b, join(0, 1, 1), c], 34, 2),
             ([a, project(0, &[1]), b, join(1, 2, 0)], 34, 3),
         ] {
-            assert_eq!(rt; refused(&policy, nodes), ((number, place), (0, 0, 0)));
+            assert_eq!(rt; refused(&policy, nodes), (number, place, 0));
         }
         Ok(())
     }

@@ -19,9 +19,18 @@ use rules::RuleRecord;
 use sample::{ProfileText, sample_chart};
 use tariff::{ByteTariff, GradeTariff};
 
-// The first releases.
-fn show_releases(rt: &HostRuntime, releases: &[Release], count: u16) -> anyhow::Result<()> {
-    for release in releases.iter().take(count as usize) {
+// The first places of a buffer, as many as there are.
+fn first<T>(places: &[T], count: usize) -> &[T] {
+    &places[..count.min(places.len())]
+}
+
+// The step of each node, and then the releases.
+fn show_plan(rt: &HostRuntime, steps: &[Step], releases: &[Release]) -> anyhow::Result<()> {
+    for (node, step) in steps.iter().enumerate() {
+        let mode = step.mode.number();
+        println!(rt; "    node {node}: server {}, mode {mode}", step.executor)?;
+    }
+    for release in releases {
         let profile = ProfileText(release.profile);
         println!(rt;
             "    release {} -> {} {profile}",
@@ -29,21 +38,6 @@ fn show_releases(rt: &HostRuntime, releases: &[Release], count: u16) -> anyhow::
         )?;
     }
     Ok(())
-}
-
-// The steps of the first nodes, and then the first releases.
-fn show_plan(
-    rt: &HostRuntime,
-    steps: &[Step],
-    nodes: usize,
-    releases: &[Release],
-    count: u16,
-) -> anyhow::Result<()> {
-    for (node, step) in steps.iter().take(nodes).enumerate() {
-        let mode = step.mode.number();
-        println!(rt; "    node {node}: server {}, mode {mode}", step.executor)?;
-    }
-    show_releases(rt, releases, count)
 }
 
 // A release that is in no plan, for places that are not written yet.
@@ -73,7 +67,8 @@ fn show_query<P: Policy, T: Shown>(
         Ok(planned) => {
             let price = tariff.text(planned.price);
             println!(rt; "  {label}: executor {}, price {price}", planned.executor)?;
-            show_plan(rt, &plan, nodes.len(), &releases, planned.releases)
+            let listed = first(&releases, planned.releases as usize);
+            show_plan(rt, first(&plan, nodes.len()), listed)
         }
         Err(refusal) => {
             let (number, place) = (refusal.number(), refusal.place());

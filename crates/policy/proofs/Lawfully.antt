@@ -1,11 +1,12 @@
 -- The exact reading keeps the laws of a policy.
 use Rattle.std.proofs.Common.{◌≡◌, ℕ, true, false, not, ◌&&◌, eqb, leb, List, [], ◌∷◌, length, sym, refl, ap, ◌∙◌, inl, inr}
+use Rattle.std.specs.List.{list_all}
 use Rattle.std.proofs.lemmas.Bool.{and_parts, and_from, eqb-true, cases_Bool, both_ways, or_from}
 use Rattle.sets.specs.Sets.{union, subset, same, below, none}
 use Rattle.sets.proofs.Sets.{subset_trans, subset_union, union_comm, same_is}
 use Rattle.chart.specs.declared.state.Chart.{Chart}
 use Rattle.chart.specs.Charts.{layout}
-use Rattle.chart.specs.Layout.{Layout, all_of, server_known}
+use Rattle.chart.specs.Layout.{Layout, server_known}
 use Rattle.chart.specs.Lookup.{attributes_known, links_known}
 use Rattle.profile.specs.declared.shape.Profile.{Profile}
 use Rattle.rules.specs.declared.view.View.{View}
@@ -47,10 +48,10 @@ module _ (l : Layout) (server : ℕ) (p : Profile) where
   rule_inside : (r : RuleRecord) → well_formed l r ≡ true → view_lets server p r.view ≡ true → inside l server p ≡ true
   rule_inside r formed lets = let k = rule_parts l r formed in view_inside r.view k.0 k.1 k.2 lets
 
-  pub exact_outside : (rules : List RuleRecord) → all_of (well_formed l) rules ≡ true → inside l server p ≡ false → exact_reading rules server p ≡ false
+  pub exact_outside : (rules : List RuleRecord) → list_all (well_formed l) rules ≡ true → inside l server p ≡ false → exact_reading rules server p ≡ false
   exact_outside [] formed out = refl
   exact_outside (r ∷ rules) formed out =
-      let b = and_parts (well_formed l r) (all_of (well_formed l) rules) formed in
+      let b = and_parts (well_formed l r) (list_all (well_formed l) rules) formed in
       or_from (view_lets server p r.view) (exact_reading rules server p) (not_let b.0) (exact_outside rules b.1 out)
     where
       not_let : well_formed l r ≡ true → view_lets server p r.view ≡ false
@@ -59,7 +60,7 @@ module _ (l : Layout) (server : ℕ) (p : Profile) where
         | inr no-let ↦ no-let
       ]
 
-pub exact_lawful : (chart : Chart) (rules : List RuleRecord) → apart rules ≡ true → all_of (well_formed (layout chart)) rules ≡ true → Lawful chart rules exact_reading
+pub exact_lawful : (chart : Chart) (rules : List RuleRecord) → apart rules ≡ true → list_all (well_formed (layout chart)) rules ≡ true → Lawful chart rules exact_reading
 exact_lawful chart rules distinct formed = record {
   order = same_exact;
   distinct = distinct;

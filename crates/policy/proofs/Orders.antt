@@ -1,7 +1,7 @@
 -- What does not depend on the order of a list.
 use Rattle.std.proofs.Common.{◌≡◌, ℕ, suc, Bool, true, false, cond, not, ◌&&◌, ◌||◌, eqb, List, [], ◌∷◌, map, length, filter, refl, ap, ◌∙◌, subst, arith}
+use Rattle.std.specs.List.{list_all, list_any}
 use Rattle.std.proofs.lemmas.Bool.Decides.{nat_tests}
-use Rattle.chart.specs.Layout.{all_of, any_of}
 use Rattle.profile.specs.declared.shape.Profile.{Profile}
 use Rattle.rules.specs.declared.view.RuleRecord.{RuleRecord}
 use Rattle.policy.specs.Same.{Same, done, keep, swap, chain}
@@ -43,16 +43,16 @@ and_turn true b c = refl
 and_turn false true c = refl
 and_turn false false c = refl
 
-pub same_any : {X : Type 0} (p : X → Bool) {xs ys : List X} → Same xs ys → any_of p xs ≡ any_of p ys
+pub same_any : {X : Type 0} (p : X → Bool) {xs ys : List X} → Same xs ys → list_any p xs ≡ list_any p ys
 same_any p done = refl
 same_any p (keep x h) = ap (λ b. p x || b) (same_any p h)
-same_any p (swap x y xs) = or_turn (p x) (p y) (any_of p xs)
+same_any p (swap x y xs) = or_turn (p x) (p y) (list_any p xs)
 same_any p (chain h k) = same_any p h ∙ same_any p k
 
-pub same_all : {X : Type 0} (p : X → Bool) {xs ys : List X} → Same xs ys → all_of p xs ≡ all_of p ys
+pub same_all : {X : Type 0} (p : X → Bool) {xs ys : List X} → Same xs ys → list_all p xs ≡ list_all p ys
 same_all p done = refl
 same_all p (keep x h) = ap (λ b. p x && b) (same_all p h)
-same_all p (swap x y xs) = and_turn (p x) (p y) (all_of p xs)
+same_all p (swap x y xs) = and_turn (p x) (p y) (list_all p xs)
 same_all p (chain h k) = same_all p h ∙ same_all p k
 
 pub same_kept : {X : Type 0} (p : X → Bool) {xs ys : List X} → Same xs ys → Same (filter p xs) (filter p ys)

@@ -1,7 +1,8 @@
 -- What a book answers to entries and withdrawals, and the rules then in force.
 use Rattle.std.specs.Prelude.{ℕ, Bool, true, not, ◌&&◌, List, [], ◌∷◌, Ok, Err, filter, Result, ◌==◌, nat_eq}
+use Rattle.std.specs.List.{list_any}
 use Rattle.chart.specs.Questions.{asked}
-use Rattle.chart.specs.Layout.{Layout, any_of}
+use Rattle.chart.specs.Layout.{Layout}
 use Rattle.rules.specs.declared.view.RuleRecord.{RuleRecord}
 use Rattle.rules.specs.declared.refusal.RuleRefusal.{RuleRefusal}
 use Rattle.rules.specs.Rules.{rule_answer}
@@ -10,7 +11,7 @@ use Rattle.policy.specs.declared.refusal.BookRefusal.TheVariants.{Rule, InForce,
 
 -- whether a rule of this number is in force
 abbrev pub in_force : ℕ → List RuleRecord → Bool
-in_force n rules = any_of (λ r. nat_eq r.number n) rules
+in_force n rules = list_any (λ r. nat_eq r.number n) rules
 
 -- no two rules share a number
 abbrev pub apart : List RuleRecord → Bool

@@ -1,8 +1,8 @@
 -- What every policy keeps.
 use Rattle.std.specs.Prelude.{◌≡◌, ℕ, Bool, true, false, List}
+use Rattle.std.specs.List.{list_all}
 use Rattle.chart.specs.declared.state.Chart.{Chart}
 use Rattle.chart.specs.Charts.{layout}
-use Rattle.chart.specs.Layout.{all_of}
 use Rattle.profile.specs.declared.shape.Profile.{Profile}
 use Rattle.rules.specs.declared.view.RuleRecord.{RuleRecord}
 use Rattle.rules.specs.Rules.{well_formed}
@@ -16,6 +16,6 @@ pub record Lawful (chart : Chart) (rules : List RuleRecord) (reading : List Rule
   -- no two rules in force share a number
   pub distinct : apart rules ≡ true
   -- every rule in force passes the questions of a rule on the policy's own chart
-  pub formed : all_of (well_formed (layout chart)) rules ≡ true
+  pub formed : list_all (well_formed (layout chart)) rules ≡ true
   -- a server or a set outside the chart gets no
   pub outside : (server : ℕ) (p : Profile) → inside (layout chart) server p ≡ false → reading rules server p ≡ false

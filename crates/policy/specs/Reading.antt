@@ -1,7 +1,8 @@
 -- The exact reading of views, and what lies inside a chart.
 use Rattle.std.specs.Prelude.{ℕ, Bool, ◌&&◌, List, map, ◌==◌}
+use Rattle.std.specs.List.{list_any}
 use Rattle.sets.specs.Sets.{union, subset, same}
-use Rattle.chart.specs.Layout.{Layout, any_of, server_known}
+use Rattle.chart.specs.Layout.{Layout, server_known}
 use Rattle.chart.specs.Lookup.{attributes_known, links_known}
 use Rattle.profile.specs.declared.shape.Profile.{Profile}
 use Rattle.rules.specs.declared.view.View.{View}
@@ -13,7 +14,7 @@ view_lets server p v = (v.server == server && same v.path p.path) && subset (uni
 
 -- some view lets it
 abbrev pub exact : List View → ℕ → Profile → Bool
-exact views server p = any_of (view_lets server p) views
+exact views server p = list_any (view_lets server p) views
 
 -- the views that rules grant
 abbrev pub granted : List RuleRecord → List View

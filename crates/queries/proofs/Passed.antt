@@ -1,8 +1,8 @@
 -- What is so of a tree that passed its questions.
 use Rattle.std.proofs.Common.{◌≡◌, ℕ, zero, suc, ◌+◌, ◌-◌, ◌<◌, ◌≤◌, Bool, true, false, not, ◌&&◌, ◌||◌, eqb, ltb, leb, ◌⊎◌, List, [], ◌∷◌, ◌++◌, length, is_some, Some, None, Ok, Option, sym, refl, ap, ◌∙◌, inl, inr, ⊎_elim, arith}
-use Rattle.std.specs.List.{AllByRecursion}
+use Rattle.std.specs.List.{AllByRecursion, list_all, list_any}
 use Rattle.std.proofs.lemmas.Bool.{cases_order, and_parts, or_cases, or_left, or_right, or_parts, leb-true, eqb-true, eqb-false, not-true, both_ways, false≢true}
-use Rattle.chart.specs.Layout.{Layout, all_of, any_of}
+use Rattle.chart.specs.Layout.{Layout}
 use Rattle.chart.specs.Lookup.{server_of}
 use Rattle.chart.proofs.Extended.{all_yes}
 use Rattle.queries.specs.declared.node.Node.{Node}
@@ -41,13 +41,13 @@ used_from used (suc n) i k h low high =
     ⊎_elim (λ e. ap used e ∙ h.0) (⊎_elim (λ lt. absurd (omega arith)) (λ lt. used_from used n (i + 1) k h.1 (omega arith) (omega arith))) (cases_order k i)
 
 -- an operand that fits is not used before
-operand_unused : (used : ℕ → Bool) (i j : ℕ) (js : List ℕ) → all_of (λ o. ltb o i && not (used o)) js ≡ true → any_of (λ o. eqb o j) js ≡ true → used j ≡ false
+operand_unused : (used : ℕ → Bool) (i j : ℕ) (js : List ℕ) → list_all (λ o. ltb o i && not (used o)) js ≡ true → list_any (λ o. eqb o j) js ≡ true → used j ≡ false
 operand_unused used i j [] h u = absurd (false≢true u)
 operand_unused used i j (o ∷ js) h u =
-    let b = and_parts (ltb o i && not (used o)) (all_of (λ o. ltb o i && not (used o)) js) h in
-    go (operand_unused used i j js b.1) (not-true (used o) (and_parts (ltb o i) (not (used o)) b.0).1) (or_cases (eqb o j) (any_of (λ o. eqb o j) js) u)
+    let b = and_parts (ltb o i && not (used o)) (list_all (λ o. ltb o i && not (used o)) js) h in
+    go (operand_unused used i j js b.1) (not-true (used o) (and_parts (ltb o i) (not (used o)) b.0).1) (or_cases (eqb o j) (list_any (λ o. eqb o j) js) u)
   where
-    go : (any_of (λ o. eqb o j) js ≡ true → used j ≡ false) → used o ≡ false → (eqb o j ≡ true) ⊎ (any_of (λ o. eqb o j) js ≡ true) → used j ≡ false
+    go : (list_any (λ o. eqb o j) js ≡ true → used j ≡ false) → used o ≡ false → (eqb o j ≡ true) ⊎ (list_any (λ o. eqb o j) js ≡ true) → used j ≡ false
     go rest free (inl e) = sym (ap used (eqb-true o j e)) ∙ free
     go rest free (inr e) = rest e
 
@@ -96,7 +96,7 @@ module _ (l : Layout) (nodes : List Node) (count : count_fits nodes ≡ true) (e
       let z : a + 1 + (b - (a + 1)) ≡ b = omega arith in
       let was = sym (ap (λ (k : ℕ). used_by nodes k j) z) ∙ used_on nodes j a (b - (a + 1)) (omega arith) u in
       let js = operands (node nodes b) in
-      let fit = and_parts (all_of (λ o. ltb o b && not (used_by nodes b o)) js) (different js) (each b below).fit in
+      let fit = and_parts (list_all (λ o. ltb o b && not (used_by nodes b o)) js) (different js) (each b below).fit in
       both_ways (used_by nodes b j) (operand_unused (used_by nodes b) b j js fit.0 v) was
 
   used_once : (j a b : ℕ) → a < length nodes → b < length nodes → uses j (node nodes a) ≡ true → uses j (node nodes b) ≡ true → a ≡ b
@@ -108,7 +108,7 @@ module _ (l : Layout) (nodes : List Node) (count : count_fits nodes ≡ true) (e
     few = let h = leb-true (length nodes) 63 (and_parts (leb 1 (length nodes)) (leb (length nodes) 63) count).1 in omega arith;
     earlier = λ i h. fit_earlier (used_by nodes i) i (operands (node nodes i)) (each i h).fit;
     once = used_once;
-    apart = λ i h. let js = operands (node nodes i) in apart_by (node nodes i) (and_parts (all_of (λ o. ltb o i && not (used_by nodes i o)) js) (different js) (each i h).fit).1;
+    apart = λ i h. let js = operands (node nodes i) in apart_by (node nodes i) (and_parts (list_all (λ o. ltb o i && not (used_by nodes i o)) js) (different js) (each i h).fit).1;
     used = λ j h. user_of nodes j (length nodes) (omega arith) (used j h);
     placed = λ i h. placed_by l nodes (stands_in nodes i) (node nodes i) (each i h).kind;
   }

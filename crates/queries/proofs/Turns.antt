@@ -1,13 +1,13 @@
 -- The questions of one node, as they are asked by the sets and profiles kept of those before it.
 use Rattle.std.proofs.Common.{◌≡◌, ℕ, suc, ◌+◌, ◌-◌, ◌<◌, ◌≤◌, Bool, true, false, cond, not, ◌&&◌, ltb, ◌≢◌, ◌⊎◌, List, [], ◌∷◌, ◌++◌, length, get_or, set, is_some, Ok, Err, sym, refl, ap, ◌∙◌, ap₂, inl, inr, arith, below_more}
 use Rattle.std.proofs.lemmas.List.{get_or-set_same, get_or-set_other}
-use Rattle.std.specs.List.{AllByRecursion}
+use Rattle.std.specs.List.{AllByRecursion, list_all}
 use Rattle.std.proofs.lemmas.Option.{slice_get_past}
 use Rattle.std.proofs.lemmas.Bool.{cases_lt, and_parts, ltb-true, true≢false, false≢true}
 use Rattle.sets.specs.declared.small_set.SmallSet.{SmallSet}
 use Rattle.sets.specs.Sets.{has, none}
 use Rattle.sets.proofs.Sets.{laws_hold}
-use Rattle.chart.specs.Layout.{Layout, all_of}
+use Rattle.chart.specs.Layout.{Layout}
 use Rattle.chart.specs.Lookup.{server_of}
 use Rattle.chart.specs.Questions.{asked}
 use Rattle.chart.specs.Sound as chart
@@ -26,14 +26,14 @@ use Rattle.queries.proofs.Flat.{tree_step}
 use Rattle.queries.proofs.Seen.{operands_same}
 
 -- operands that fit are earlier
-all_earlier : (p : ℕ → Bool) (i : ℕ) (js : List ℕ) → all_of (λ j. ltb j i && not (p j)) js ≡ true → AllByRecursion (λ j. j < i) js
+all_earlier : (p : ℕ → Bool) (i : ℕ) (js : List ℕ) → list_all (λ j. ltb j i && not (p j)) js ≡ true → AllByRecursion (λ j. j < i) js
 all_earlier p i [] h = tt
 all_earlier p i (j ∷ js) h =
-    let b = and_parts (ltb j i && not (p j)) (all_of (λ j. ltb j i && not (p j)) js) h in
+    let b = and_parts (ltb j i && not (p j)) (list_all (λ j. ltb j i && not (p j)) js) h in
     (ltb-true j i (and_parts (ltb j i) (not (p j)) b.0).0, all_earlier p i js b.1)
 
 pub fit_earlier : (p : ℕ → Bool) (i : ℕ) (js : List ℕ) → operands_fit p i js ≡ true → AllByRecursion (λ j. j < i) js
-fit_earlier p i js h = all_earlier p i js (and_parts (all_of (λ j. ltb j i && not (p j)) js) (different js) h).0
+fit_earlier p i js h = all_earlier p i js (and_parts (list_all (λ j. ltb j i && not (p j)) js) (different js) h).0
 
 -- the profile of a node's result, from those of its operands
 pub profile_step : (l : Layout) (nodes : List Node) (i : ℕ) → AllByRecursion (λ j. j < i) (operands (node nodes i)) → node_profile l nodes i ≡ profile_by l (node_profile l nodes) (node nodes i)

@@ -1,5 +1,5 @@
 -- The question whether each node is used.
-use Rattle.std.proofs.Common.{◌≡◌, ℕ, zero, suc, ◌+◌, ◌<◌, ◌≤◌, Bool, true, false, cond, ◌⊎◌, MatchOption, Some, None, Option, IfOk, Ok, Err, Result, sym, refl, ap, ◌∙◌, inl, inr, arith}
+use Rattle.std.proofs.Common.{◌≡◌, ℕ, zero, suc, ◌+◌, ◌<◌, ◌≤◌, Bool, true, false, cond, ◌⊎◌, MatchOption, Some, None, Option, Ok, Err, Result, sym, refl, ap, ◌∙◌, inl, inr, arith}
 use Rattle.std.proofs.lemmas.Bool.{cases_eq, cond-true, cond-false}
 use Rattle.queries.specs.declared.refusal.TreeRefusal.{TreeRefusal}
 use Rattle.queries.specs.declared.refusal.TreeRefusal.TheVariants.{Unused}
@@ -42,8 +42,3 @@ uses_same p q (suc n) j same =
     let e = same j (omega arith) in
     let r = uses_same p q n (j + 1) (λ k h. same k (omega arith)) in
     cc
-
--- what holds anyway holds of whatever was made
-pub made_anyway : {T E Q : Type 0} (r : Result T E) → Q → IfOk r (λ _. Q)
-made_anyway (Ok t) h = h
-made_anyway (Err e) h = tt

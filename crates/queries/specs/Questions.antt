@@ -1,9 +1,10 @@
 -- The questions that a query tree has to pass on a chart.
 use Rattle.std.specs.Prelude.{ℕ, zero, suc, ◌+◌, ◌-◌, Bool, true, false, not, ◌&&◌, List, [], ◌∷◌, ◌++◌, length, take, is_some, Ok, Err, Result, ◌==◌, nat_eq, nat_le, nat_lt}
+use Rattle.std.specs.List.{list_all, list_any}
 use Rattle.sets.specs.declared.small_set.SmallSet.{SmallSet}
 use Rattle.sets.specs.Sets.{none, same, subset}
 use Rattle.chart.specs.Questions.{asked}
-use Rattle.chart.specs.Layout.{Layout, all_of, any_of}
+use Rattle.chart.specs.Layout.{Layout}
 use Rattle.chart.specs.Lookup.{server_of}
 use Rattle.profile.specs.declared.shape.Profile.{Profile}
 use Rattle.profile.specs.Joins.{orient_answer}
@@ -16,11 +17,11 @@ use Rattle.queries.specs.Flat.{node, operands, tree_of}
 
 -- whether a node uses the node j
 abbrev pub uses : ℕ → Node → Bool
-uses j x = any_of (λ o. nat_eq o j) (operands x)
+uses j x = list_any (λ o. nat_eq o j) (operands x)
 
 -- whether one of the first i nodes uses j
 unfoldable pub used_by : List Node → ℕ → ℕ → Bool
-used_by nodes i j = any_of (uses j) (take i nodes)
+used_by nodes i j = list_any (uses j) (take i nodes)
 
 -- whether a node is a leaf of this relation
 abbrev pub is_leaf : ℕ → Node → Bool
@@ -31,16 +32,16 @@ is_leaf r (Join a b k) = false
 
 -- whether one of the first i nodes is a leaf of this relation
 unfoldable pub stands_in : List Node → ℕ → ℕ → Bool
-stands_in nodes i r = any_of (is_leaf r) (take i nodes)
+stands_in nodes i r = list_any (is_leaf r) (take i nodes)
 
 -- whether no two of the numbers are the same
 abbrev pub different : List ℕ → Bool
 different [] = true
-different (x ∷ xs) = not (any_of (λ y. nat_eq y x) xs) && different xs
+different (x ∷ xs) = not (list_any (λ y. nat_eq y x) xs) && different xs
 
 -- operands are earlier than i, different and not yet used
 abbrev pub operands_fit : (ℕ → Bool) → ℕ → List ℕ → Bool
-operands_fit used i js = all_of (λ j. nat_lt j i && not (used j)) js && different js
+operands_fit used i js = list_all (λ j. nat_lt j i && not (used j)) js && different js
 
 -- attributes, at least one, and all of them shown by the operand
 abbrev pub attributes_fit : SmallSet → SmallSet → Bool

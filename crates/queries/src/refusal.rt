@@ -1,22 +1,24 @@
 ghost use Rattle.std.specs.Prelude.{◌≡◌};
 ghost use Rattle.queries.specs.Refusals.{refusal_number, refusal_place};
 
+use thiserror::Error;
+
 // Why a query tree is refused. A node's refusal has the node's number.
-#[derive(Clone, Copy, PartialEq, Eq)]
+#[derive(Clone, Copy, Debug, PartialEq, Eq, Error)]
 pub enum TreeRefusal {
-    // not 1 to 63 nodes
+    #[error("not 1 to 63 nodes")]
     Count,
-    // a buffer that is too short
+    #[error("a buffer that is too short")]
     Room,
-    // an operand that is not an earlier node, is used already or is named twice
+    #[error("node {0}: an operand that is not an earlier node, is used already or is named twice")]
     Operand(u16),
-    // a relation that is not known, or stands at an earlier leaf
+    #[error("node {0}: a relation that is not known, or stands at an earlier leaf")]
     Relation(u16),
-    // no attribute, or one that the operand does not show
+    #[error("node {0}: no attribute, or one that the operand does not show")]
     Attributes(u16),
-    // a link that is not known, or has not one end shown on each side
+    #[error("node {0}: a link that is not known, or has not one end shown on each side")]
     Link(u16),
-    // a node other than the root that nothing uses
+    #[error("node {0}: a node other than the root that nothing uses")]
     Unused(u16),
 }
 

@@ -1,15 +1,15 @@
 -- A set that is collected from sets, one for each number of a set.
-use Rattle.std.proofs.Common.{◌≡◌, ℕ, List, [], ◌∷◌, sym, refl, ap, ◌∙◌}
+use Rattle.std.proofs.Common.{◌≡◌, ℕ, List, [], ◌∷◌, sym, ap, ◌∙◌}
 use denote.Param.Members.{Mut}
 use Rattle.std.specs.Fn.{Called}
 use Rattle.std.specs.Iterator.{YieldsFirst, FoldsItems}
 use Rattle.std.specs.List.{fold}
-use Rattle.std.proofs.lemmas.Iterator.Consumers.{fold_from_yields_List, YieldsList-from_first}
 use Rattle.sets.specs.declared.small_set.SmallSet.{SmallSet}
 use Rattle.sets.specs.declared.elements.Elements.{Elements}
 use Rattle.sets.specs.Elements.{rest}
 use Rattle.sets.specs.Sets.{none, union}
 use Rattle.sets.proofs.Sets.{union_assoc, union_none, union_comm}
+use Rattle.sets.proofs.Folds.{elements_folded}
 use Rattle.rules.specs.Relations.{gather}
 
 fold_gather : (f : ℕ → SmallSet) (from : SmallSet) (xs : List ℕ) → fold (λ found x. union found (f x)) from xs ≡ union from (gather f xs)
@@ -22,8 +22,7 @@ pub gathered : {F : Type 0} (g : Mut F (SmallSet × (ℕ × Unit {0})) SmallSet)
     → ((s : SmallSet) (x : ℕ) (t : SmallSet) (q : F) → Called g call (s, (x, tt)) t q → (q ≡ call) × (t ≡ union s (f x)))
     → found ≡ union from (gather f (rest numbers))
 gathered g f numbers call from found ran adds =
-    fold_from_yields_List g (λ s x. union s (f x)) from found ran (YieldsList-from_first (λ x. x) rest (rest numbers) refl) adds
-    ∙ fold_gather f from (rest numbers)
+    elements_folded g (λ s x. union s (f x)) numbers call from found ran adds ∙ fold_gather f from (rest numbers)
 
 -- from the empty set on
 pub gathered_all : (f : ℕ → SmallSet) (xs : List ℕ) (from found : SmallSet) → found ≡ union from (gather f xs) → from ≡ none → found ≡ gather f xs

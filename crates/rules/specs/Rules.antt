@@ -1,8 +1,9 @@
 -- The questions that a rule has to pass on a chart.
 use Rattle.std.specs.Prelude.{Bool, not, ◌&&◌, List, [], ◌∷◌, Result, nat_le}
+use Rattle.std.specs.List.{list_all}
 use Rattle.sets.specs.Sets.{none, same}
 use Rattle.chart.specs.Questions.{asked}
-use Rattle.chart.specs.Layout.{Layout, all_of, server_known}
+use Rattle.chart.specs.Layout.{Layout, server_known}
 use Rattle.chart.specs.Lookup.{attributes_known, links_known}
 use Rattle.rules.specs.declared.view.View.{View}
 use Rattle.rules.specs.declared.view.RuleRecord.{RuleRecord}
@@ -28,4 +29,4 @@ rule_answer l r = asked (rule_questions l r) r
 
 -- a rule that passes every question
 abbrev pub well_formed : Layout → RuleRecord → Bool
-well_formed l r = all_of (λ (q : Bool × RuleRefusal). q.0) (rule_questions l r)
+well_formed l r = list_all (λ (q : Bool × RuleRefusal). q.0) (rule_questions l r)

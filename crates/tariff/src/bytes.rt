@@ -18,8 +18,8 @@ pub struct ByteTariff {
 fn weigh(chart: &Chart, shown: SmallSet) -> u32
     ensures { result ≡ shown_bytes (layout chart.now) shown }
 {
-    shown.elements().fold(0u32, |total, a| {
-        total.saturating_add(u32::from(chart.width(a)))
+    shown.elements().fold(0, |total, attribute| {
+        total.saturating_add(u32::from(chart.width(attribute)))
     })
 }
 

@@ -1,6 +1,7 @@
 use Rattle.std.proofs.Common.{◌≡◌, ◌+◌, ltb, ◌++◌, length, take, sym, refl, ap, ◌∙◌, arith, length-set}
+use Rattle.std.specs.List.{list_all}
 use Rattle.std.proofs.lemmas.List.{take_more_set}
-use Rattle.chart.specs.Layout.{all_of, proper, crosses}
+use Rattle.chart.specs.Layout.{proper, crosses}
 use Rattle.chart.specs.Build.{columns}
 use Rattle.chart.specs.Charts.{layout}
 use Rattle.chart.proofs.Sound.{relations_length, attributes_length}
@@ -31,9 +32,9 @@ invariant_of-chart c =
       counted = (omega arith, omega arith, ch.counted.2);
       manned = ch.manned;
       homed = front_more (λ s. ltb s ch.servers) ch.homes n server (omega (arith, ch.sized.0)) ch.homed known;
-      owned = ap (all_of (proper (n + 1))) (written c) ∙ owned_more n old ws ch.owned widths;
+      owned = ap (list_all (proper (n + 1))) (written c) ∙ owned_more n old ws ch.owned widths;
       crossed =
-          ap (λ xs. all_of (λ x. crosses xs x.left x.right) (take ch.link_count ch.links)) (written c)
+          ap (λ xs. list_all (λ x. crosses xs x.left x.right) (take ch.link_count ch.links)) (written c)
           ∙ crossed_more old (columns n ws) (take ch.link_count ch.links) ch.crossed;
     }
 

@@ -1,7 +1,7 @@
 use Rattle.std.proofs.Common.{◌∷◌, length, sym, ◌∙◌, arith, Some, Ok, Err, refl, length-set}
+use Rattle.std.specs.List.{list_all}
 use Rattle.std.proofs.lemmas.Bool.{le-leb, lt-leb, and_from}
 use Rattle.chart.specs.Charts.{layout}
-use Rattle.chart.specs.Layout.{all_of}
 use Rattle.rules.specs.Rules.{well_formed}
 use Rattle.policy.specs.declared.refusal.BookRefusal.TheVariants.{InForce, Full}
 use Rattle.policy.proofs.Orders.{same_all, same_apart}
@@ -44,7 +44,7 @@ invariant_of-self c =
     record {
       sized = length-set book.slots c.in_ok-i.i (Some r) ∙ book.sized;
       distinct = same_apart filled ∙ apart_more rules r.given (sym c.if-holds_number.ensures) book.distinct;
-      formed = same_all (well_formed l) filled ∙ and_from (well_formed l r.given) (all_of (well_formed l) rules) c.in_ok-rule.ensures.passed book.formed;
+      formed = same_all (well_formed l) filled ∙ and_from (well_formed l r.given) (list_all (well_formed l) rules) c.in_ok-rule.ensures.passed book.formed;
     }
 
 pub returns : goal.returns

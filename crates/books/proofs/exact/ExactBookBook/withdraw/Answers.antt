@@ -1,6 +1,6 @@
 use Rattle.std.proofs.Common.{Bool, not, eqb, List, sym, ap, ◌∙◌, subst, None, length-set}
+use Rattle.std.specs.List.{list_all}
 use Rattle.chart.specs.Charts.{layout}
-use Rattle.chart.specs.Layout.{all_of}
 use Rattle.rules.specs.declared.view.RuleRecord.{RuleRecord}
 use Rattle.rules.specs.Rules.{well_formed}
 use Rattle.policy.specs.Same.{Same}
@@ -27,7 +27,7 @@ invariant_of-self c =
     record {
       sized = length-set book.slots c.in_ok-i.i None ∙ book.sized;
       distinct = ap apart gone ∙ apart_fewer other rules book.distinct;
-      formed = ap (all_of (well_formed l)) gone ∙ all_fewer (well_formed l) other rules book.formed;
+      formed = ap (list_all (well_formed l)) gone ∙ all_fewer (well_formed l) other rules book.formed;
     }
 
 pub returns-clause-after : goal.returns-clause-after
