@@ -7,9 +7,8 @@ ghost use Rattle.assignments.specs.Modes.{sending, releases};
 ghost use Rattle.planner.specs.Plans.{at_step, node_releases, entailed, releases_after, put_from};
 
 use assignments::{Mode, Release, Step};
-use chart::Chart;
 use profile::{Join, Profile, Side};
-use queries::Node;
+use queries::{Checked, Node};
 
 // The release of a profile from one server to another.
 fn release(sender: u16, receiver: u16, profile: Profile) -> Release
@@ -53,27 +52,19 @@ fn list_join(join: &Join, mode: Mode, left: u16, right: u16, out: &mut [Release]
 }
 
 // Writes the releases of the node i of a plan, from `at` on, and answers where the next release goes.
-fn list_node(
-    chart: &Chart,
-    nodes: &[Node],
-    i: usize,
-    profiles: &[Profile],
-    plan: &[Step],
-    out: &mut [Release],
-    at: u16,
-) -> u16
-    requires sound { Sound (layout chart.now) nodes.now }
-    requires sizes { (i < length nodes.now) × (length nodes.now ≤ length profiles.now) × (length nodes.now ≤ length plan.now) × (at < 64) }
-    requires profiles { (k : ℕ) → k < length nodes.now → slice_index_or profiles.now k blank ≡ node_profile (layout chart.now) nodes.now k }
-    requires room { at + length (node_releases (layout chart.now) nodes.now (at_step plan.now) i (NodeAt nodes.now i)) ≤ length out.old }
-    ensures next { result ≡ at + length (node_releases (layout chart.now) nodes.now (at_step plan.now) i (NodeAt nodes.now i)) }
-    ensures wrote { out.new ≡ put_from out.old at (node_releases (layout chart.now) nodes.now (at_step plan.now) i (NodeAt nodes.now i)) }
+fn list_node(query: &Checked, i: usize, plan: &[Step], out: &mut [Release], at: u16) -> u16
+    requires sound { Sound (layout query.now.chart.now) query.now.nodes.now }
+    requires profiles { (k : ℕ) → k < length query.now.nodes.now → slice_index_or query.now.profiles k blank ≡ node_profile (layout query.now.chart.now) query.now.nodes.now k }
+    requires sizes { (i < length query.now.nodes.now) × (length query.now.nodes.now ≤ length plan.now) × (at < 64) }
+    requires room { at + length (node_releases (layout query.now.chart.now) query.now.nodes.now (at_step plan.now) i (NodeAt query.now.nodes.now i)) ≤ length out.old }
+    ensures next { result ≡ at + length (node_releases (layout query.now.chart.now) query.now.nodes.now (at_step plan.now) i (NodeAt query.now.nodes.now i)) }
+    ensures wrote { out.new ≡ put_from out.old at (node_releases (layout query.now.chart.now) query.now.nodes.now (at_step plan.now) i (NodeAt query.now.nodes.now i)) }
 {
-    let Node::Join { left, right, link } = nodes[i] else {
+    let Node::Join { left, right, link } = query.nodes[i] else {
         return at;
     };
     let (a, b) = (left as usize, right as usize);
-    let Some(join) = Join::new(chart, profiles[a], profiles[b], link) else {
+    let Some(join) = Join::new(query.chart, query.profiles[a], query.profiles[b], link) else {
         return at;
     };
     list_join(
@@ -87,23 +78,15 @@ fn list_node(
 }
 
 // Writes the releases of a plan in the order of the nodes, and answers how many there are.
-pub(crate) fn list_releases(
-    chart: &Chart,
-    nodes: &[Node],
-    profiles: &[Profile],
-    plan: &[Step],
-    out: &mut [Release],
-) -> u16
-    requires sound { Sound (layout chart.now) nodes.now }
-    requires profiles { (k : ℕ) → k < length nodes.now → slice_index_or profiles.now k blank ≡ node_profile (layout chart.now) nodes.now k }
-    requires sizes { (length nodes.now ≤ length profiles.now) × (length nodes.now ≤ length plan.now) × (length nodes.now ≤ length out.old) }
-    ensures count { result ≡ length (entailed (layout chart.now) nodes.now (at_step plan.now) (length nodes.now)) }
-    ensures wrote { out.new ≡ releases_after (entailed (layout chart.now) nodes.now (at_step plan.now) (length nodes.now)) out.old }
-    ensures few { result < length nodes.now }
+pub(crate) fn list_releases(query: &Checked, plan: &[Step], out: &mut [Release]) -> u16
+    requires sizes { (length query.now.nodes.now ≤ length plan.now) × (length query.now.nodes.now ≤ length out.old) }
+    ensures count { result ≡ length (entailed (layout query.now.chart.now) query.now.nodes.now (at_step plan.now) (length query.now.nodes.now)) }
+    ensures wrote { out.new ≡ releases_after (entailed (layout query.now.chart.now) query.now.nodes.now (at_step plan.now) (length query.now.nodes.now)) out.old }
+    ensures few { result < length query.now.nodes.now }
 {
     let mut at = 0;
-    for i in 0..nodes.len() {
-        at = list_node(chart, nodes, i, profiles, plan, out, at);
+    for i in 0..query.nodes.len() {
+        at = list_node(query, i, plan, out, at);
     }
     at
 }

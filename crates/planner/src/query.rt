@@ -17,36 +17,30 @@ use crate::answer::{Planned, QueryRefusal};
 use crate::list::list_releases;
 use crate::write::write_plan;
 use assignments::{Place, Release, Step};
-use chart::Chart;
 use policy::Policy;
-use profile::Profile;
-use queries::{Node, TreeRefusal, has_fit_count};
+use queries::{Checked, Node, TreeRefusal, has_fit_count};
 use search::{Blocked, Seat, Table, search_tree};
 use tariff::Tariff;
 
 // Writes out the plan and the releases that a filled table records for the query at this seat.
 fn write_out<P: Copy>(
-    chart: &Chart,
-    nodes: &[Node],
-    profiles: &[Profile],
+    query: &Checked,
     seat: Seat<P>,
     work: &mut [Option<Place<P>>],
     plan: &mut [Step],
     releases: &mut [Release],
 ) -> Planned<P>
-    requires sound { Sound (layout chart.now) nodes.now }
-    requires profiles { (k : ℕ) → k < length nodes.now → slice_index_or profiles.now k blank ≡ node_profile (layout chart.now) nodes.now k }
-    requires sizes { (length nodes.now ≤ length profiles.now) × (length nodes.now ≤ length plan.old) × (length nodes.now ≤ length releases.old) }
+    requires sizes { (length query.now.nodes.now ≤ length plan.old) × (length query.now.nodes.now ≤ length releases.old) }
     ensures work { work.new ≡ work.old }
-    ensures wrote { (c : Pricing P) (may : ℕ → Shape → Bool) (old : List (Maybe (Entry P))) (p : Entry P) → Filled c may (layout chart.now) nodes.now (length nodes.now) old work.old → place_of c may (layout chart.now).servers (layout chart.now) (root nodes.now) seat.server ≡ Some p → seat.server < (layout chart.now).servers → WrittenOut c may (layout chart.now) nodes.now seat plan.old plan.new releases.old releases.new result }
+    ensures wrote { (c : Pricing P) (may : ℕ → Shape → Bool) (old : List (Maybe (Entry P))) (p : Entry P) → Filled c may (layout query.now.chart.now) query.now.nodes.now (length query.now.nodes.now) old work.old → place_of c may (layout query.now.chart.now).servers (layout query.now.chart.now) (root query.now.nodes.now) seat.server ≡ Some p → seat.server < (layout query.now.chart.now).servers → WrittenOut c may (layout query.now.chart.now) query.now.nodes.now seat plan.old plan.new releases.old releases.new result }
 {
-    let servers = chart.servers();
+    let servers = query.chart.servers();
     let table = Table {
         places: work,
         servers,
     };
-    write_plan(nodes, &table, seat.server, plan);
-    let count = list_releases(chart, nodes, profiles, plan, releases);
+    write_plan(query.nodes, &table, seat.server, plan);
+    let count = list_releases(query, plan, releases);
     Planned {
         executor: seat.server,
         price: seat.price,
@@ -56,22 +50,18 @@ fn write_out<P: Copy>(
 
 // Answers by what the search found: writes out the plan, or names the node that blocks.
 fn answer_found<P: Copy>(
-    chart: &Chart,
-    nodes: &[Node],
-    profiles: &[Profile],
+    query: &Checked,
     outcome: Result<Seat<P>, Blocked>,
     work: &mut [Option<Place<P>>],
     plan: &mut [Step],
     releases: &mut [Release],
 ) -> Result<Planned<P>, QueryRefusal>
-    requires sound { Sound (layout chart.now) nodes.now }
-    requires profiles { (k : ℕ) → k < length nodes.now → slice_index_or profiles.now k blank ≡ node_profile (layout chart.now) nodes.now k }
-    requires sizes { (length nodes.now ≤ length profiles.now) × (length nodes.now ≤ length plan.old) × (length nodes.now ≤ length releases.old) }
+    requires sizes { (length query.now.nodes.now ≤ length plan.old) × (length query.now.nodes.now ≤ length releases.old) }
     ensures work { work.new ≡ work.old }
-    ensures wrote { (c : Pricing P) (may : ℕ → Shape → Bool) (old : List (Maybe (Entry P))) → Filled c may (layout chart.now) nodes.now (length nodes.now) old work.old → outcome ≡ outcome_of c may (layout chart.now) nodes.now → AnsweredBy c may (layout chart.now) nodes.now outcome plan.old plan.new releases.old releases.new result }
+    ensures wrote { (c : Pricing P) (may : ℕ → Shape → Bool) (old : List (Maybe (Entry P))) → Filled c may (layout query.now.chart.now) query.now.nodes.now (length query.now.nodes.now) old work.old → outcome ≡ outcome_of c may (layout query.now.chart.now) query.now.nodes.now → AnsweredBy c may (layout query.now.chart.now) query.now.nodes.now outcome plan.old plan.new releases.old releases.new result }
 {
     let seat = outcome?;
-    Ok(write_out(chart, nodes, profiles, seat, work, plan, releases))
+    Ok(write_out(query, seat, work, plan, releases))
 }
 
 // Plans a query over any policy, at any tariff. It fills the work table, writes an executor and a mode for each node into the
@@ -99,13 +89,5 @@ pub fn plan_query<P: Policy, T: Tariff>(
         return Err(TreeRefusal::Room.into());
     }
     let found = search_tree(policy, tariff, nodes, work)?;
-    answer_found(
-        policy.chart(),
-        nodes,
-        &found.profiles,
-        found.outcome,
-        work,
-        plan,
-        releases,
-    )
+    answer_found(&found.query, found.outcome, work, plan, releases)
 }

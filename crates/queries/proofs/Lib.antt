@@ -3,3 +3,4 @@ pub mod Seen
 pub mod Turns
 pub mod Uses
 pub mod Passed
+pub mod Accepted

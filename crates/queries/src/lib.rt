@@ -2,9 +2,11 @@
 #![tactic(auto)]
 
 mod check;
+mod checked;
 mod node;
 mod refusal;
 
 pub use check::{check_tree, has_fit_count};
+pub use checked::Checked;
 pub use node::Node;
 pub use refusal::TreeRefusal;

@@ -11,8 +11,7 @@ use crate::root::{Seat, choose, lowest_empty};
 use crate::table::Table;
 use assignments::Place;
 use policy::Policy;
-use profile::Profile;
-use queries::{Node, TreeRefusal, check_tree, has_fit_count};
+use queries::{Checked, Node, TreeRefusal, check_tree, has_fit_count};
 use tariff::Tariff;
 
 // No safe assignment: the lowest node whose own subtree has none.
@@ -21,10 +20,10 @@ pub struct Blocked {
     pub node: u16,
 }
 
-// The profile of each node, in the first places, and what was found for the root: the cheapest executor, or what blocks.
+// A query that passed its questions, and what was found for the root: the cheapest executor, or what blocks.
 #[derive(Clone, Copy)]
-pub struct Searched<P> {
-    pub profiles: [Profile; 63],
+pub struct Searched<'a, P> {
+    pub query: Checked<'a>,
     pub outcome: Result<Seat<P>, Blocked>,
 }
 
@@ -50,34 +49,31 @@ fn read_outcome<T: Tariff>(
 fn run_search<P: Policy, T: Tariff>(
     policy: &P,
     tariff: &T,
-    nodes: &[Node],
-    profiles: &[Profile],
+    query: &Checked,
     work: &mut [Option<Place<T::Price>>],
 ) -> Result<Seat<T::Price>, Blocked>
-    requires sound { Sound (layout (P.Policy.charted policy.now)) nodes.now }
-    requires profiles { (k : ℕ) → k < length nodes.now → slice_index_or profiles.now k blank ≡ node_profile (layout (P.Policy.charted policy.now)) nodes.now k }
-    requires sized { length nodes.now ≤ length profiles.now }
-    requires room { length nodes.now * (layout (P.Policy.charted policy.now)).servers ≤ length work.old }
-    ensures outcome { result ≡ outcome_of (T.pricing tariff.now) (P.Policy.reading policy.now (P.Policy.rules policy.now)) (layout (P.Policy.charted policy.now)) nodes.now }
-    ensures filled { Filled (T.pricing tariff.now) (P.Policy.reading policy.now (P.Policy.rules policy.now)) (layout (P.Policy.charted policy.now)) nodes.now (length nodes.now) work.old work.new }
+    requires chart { query.now.chart.now ≡ P.Policy.charted policy.now }
+    requires room { length query.now.nodes.now * (layout (P.Policy.charted policy.now)).servers ≤ length work.old }
+    ensures outcome { result ≡ outcome_of (T.pricing tariff.now) (P.Policy.reading policy.now (P.Policy.rules policy.now)) (layout (P.Policy.charted policy.now)) query.now.nodes.now }
+    ensures filled { Filled (T.pricing tariff.now) (P.Policy.reading policy.now (P.Policy.rules policy.now)) (layout (P.Policy.charted policy.now)) query.now.nodes.now (length query.now.nodes.now) work.old work.new }
 {
     let servers = policy.chart().servers();
     let mut table = Table {
         places: work,
         servers,
     };
-    fill_table(policy, tariff, nodes, profiles, &mut table);
-    read_outcome(tariff, &table, nodes.len() as u16)
+    fill_table(policy, tariff, query, &mut table);
+    read_outcome(tariff, &table, query.nodes.len() as u16)
 }
 
-// Searches a query over any policy, at any tariff: fills the work table, and answers each node's profile and what was found
+// Searches a query over any policy, at any tariff: fills the work table, and answers the query with each node's profile and what was found
 // for the root; or the first refusal, with the table as it was.
-pub fn search_tree<P: Policy, T: Tariff>(
-    policy: &P,
+pub fn search_tree<'a, P: Policy, T: Tariff>(
+    policy: &'a P,
     tariff: &T,
-    nodes: &[Node],
+    nodes: &'a [Node],
     work: &mut [Option<Place<T::Price>>],
-) -> Result<Searched<T::Price>, TreeRefusal>
+) -> Result<Searched<'a, T::Price>, TreeRefusal>
     ensures answer { verdict result ≡ search_answer (layout (P.Policy.charted policy.now)) nodes.now (length work.old) }
     ensures table { TableAfter (T.pricing tariff.now) (P.Policy.reading policy.now (P.Policy.rules policy.now)) (layout (P.Policy.charted policy.now)) nodes.now work.old work.new (verdict result) }
     ensures found { IfOk result (λ v. Found (T.pricing tariff.now) (P.Policy.reading policy.now (P.Policy.rules policy.now)) (layout (P.Policy.charted policy.now)) nodes.now v) }
@@ -89,7 +85,7 @@ pub fn search_tree<P: Policy, T: Tariff>(
     if work.len() < nodes.len() * chart.servers() as usize {
         return Err(TreeRefusal::Room);
     }
-    let profiles = check_tree(chart, nodes)?;
-    let outcome = run_search(policy, tariff, nodes, &profiles, work);
-    Ok(Searched { profiles, outcome })
+    let query = check_tree(chart, nodes)?;
+    let outcome = run_search(policy, tariff, &query, work);
+    Ok(Searched { query, outcome })
 }

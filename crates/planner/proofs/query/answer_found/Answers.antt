@@ -7,8 +7,8 @@ use Rattle.planner.proofs.query.answer_found.Goals as goal
 
 pub returns-clause-wrote : goal.returns-clause-wrote
 returns-clause-wrote g c = λ d may old filled found.
-    let l = layout c.args.chart.now in
-    let nodes = c.args.nodes.now in
+    let l = layout c.args.query.now.chart.now in
+    let nodes = c.args.query.now.nodes.now in
     let q = c.in_ok-seat.seat in
     let held = seat_place d may l nodes q (sym found ∙ c.in_ok-seat.was) in
     let w = c.write_out.ensures.wrote d may old held.0 filled held.1 held.2 in

@@ -1,5 +1,6 @@
-use Rattle.std.proofs.Common.{◌≡◌, true, length, sym, ap, ◌∙◌, subst}
-use Rattle.chart.specs.declared.state.Chart.{Chart}
+use Rattle.std.proofs.Common.{◌≡◌, true, List, length, sym, ap, ◌∙◌, subst}
+use Rattle.chart.specs.Layout.{Layout}
+use Rattle.queries.specs.declared.node.Node.{Node}
 use Rattle.chart.specs.Charts.{layout}
 use Rattle.chart.proofs.Sound.{chart_sound}
 use Rattle.queries.specs.Questions.{count_fits}
@@ -23,13 +24,19 @@ returns g c =
     let new = c.search_tree.new.work in
     let h = c.in_ok-found.ensures in
     let o = c.in_ok-found.found.outcome in
+    let q = c.in_ok-found.found.query in
     let fit : count_fits nodes ≡ true = sym c.has_fit_count.ensures ∙ c.if-not-has_fit_count.false in
     let yes' = accepted_by pricing may l nodes work plan releases
     (as_searched l nodes (length work) (length plan) (length releases) fit c.if-plan-nodes.false c.if-releases-nodes.false ∙ sym h.answer) in
     let wrote = subst
-    (λ (v : Chart). Filled pricing may (layout v) nodes (length nodes) work new → o ≡ outcome_of pricing may (layout v) nodes
-    → AnsweredBy pricing may (layout v) nodes o plan c.answer_found.new.plan releases c.answer_found.new.releases c.answer_found.result)
-    c.chart.ensures (c.answer_found.ensures.wrote pricing may work) h.table h.found.outcome in
+    (λ (ns : List Node). Filled pricing may l ns (length ns) work new → o ≡ outcome_of pricing may l ns
+    → AnsweredBy pricing may l ns o plan c.answer_found.new.plan releases c.answer_found.new.releases c.answer_found.result)
+    h.found.listed
+    (subst
+    (λ (v : Layout). Filled pricing may v q.nodes.now (length q.nodes.now) work new → o ≡ outcome_of pricing may v q.nodes.now
+    → AnsweredBy pricing may v q.nodes.now o plan c.answer_found.new.plan releases c.answer_found.new.releases c.answer_found.result)
+    h.found.charted (c.answer_found.ensures.wrote pricing may work))
+    h.table h.found.outcome in
     let answer = wrote.answer ∙ ap (answer_by pricing may l nodes) h.found.outcome in
     let planned = wrote.plan ∙ ap (λ (x : Outcome g.row.T-Price.Denot). plan_by pricing may l nodes x plan) h.found.outcome in
     let listed = wrote.releases ∙ ap (λ (x : Outcome g.row.T-Price.Denot). releases_by pricing may l nodes x releases) h.found.outcome in
