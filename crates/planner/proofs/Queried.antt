@@ -1,6 +1,6 @@
 -- A query by the answer of its check.
-use Rattle.std.proofs.Common.{◌≡◌, ℕ, ◌*◌, ◌<◌, ◌≤◌, Bool, true, false, cond, ◌&&◌, leb, ◌⊎◌, List, length, Ok, Err, Option, Result, sym, refl, ap, ◌∙◌, subst, inl, inr}
-use Rattle.std.proofs.lemmas.Bool.{cond-true, cond-false, and_left, and_right, and_from, lt-leb, le-leb}
+use Rattle.std.proofs.Common.{◌≡◌, ℕ, ◌*◌, ◌≤◌, Bool, true, false, cond, ◌&&◌, leb, List, length, Ok, Err, Option, Result, sym, refl, ap, ◌∙◌, subst}
+use Rattle.std.proofs.lemmas.Bool.{cond-true, and_from, le-leb}
 use Rattle.chart.specs.Layout.{Layout}
 use Rattle.chart.specs.Sound as chart
 use Rattle.profile.specs.declared.shape.Profile.{Profile}
@@ -17,26 +17,15 @@ use Rattle.search.specs.Rows.{Filled}
 use Rattle.search.specs.Outcomes.{Outcome, outcome_of, search_answer}
 use Rattle.planner.specs.declared.answer.Planned.{Planned}
 use Rattle.planner.specs.declared.answer.QueryRefusal.{QueryRefusal}
-use Rattle.planner.specs.declared.answer.QueryRefusal.TheVariants as refusal
 use Rattle.planner.specs.Queries.{room_fits, query_check, once_checked, table_filled, answer_by, plan_by, releases_by, answer_from, checked, query_answer, work_after, plan_then, releases_then}
 use Rattle.planner.specs.Judged.{Judged, BlockedAt}
 use Rattle.planner.proofs.Verdicts.{seated_by, blocked_by, blocked_at, planned_by}
 
 -- the check of a query: its count, the room in its buffers, its nodes
 module _ (l : Layout) (nodes : List Node) (w p z : ℕ) where
-  pub no_count : count_fits nodes ≡ false → query_check l nodes w p z ≡ Err Count
-  no_count h = cond-false (count_fits nodes) (cond (room_fits l nodes w p z) (answered (tree_questions l nodes)) (Err Room)) (Err Count) h
-
   module _ (fit : count_fits nodes ≡ true) where
     counted : query_check l nodes w p z ≡ cond (room_fits l nodes w p z) (answered (tree_questions l nodes)) (Err Room)
     counted = cond-true (count_fits nodes) (cond (room_fits l nodes w p z) (answered (tree_questions l nodes)) (Err Room)) (Err Count) fit
-
-    pub no_room : (p < length nodes) ⊎ ((length nodes ≤ p) × (z < length nodes)) → query_check l nodes w p z ≡ Err Room
-    no_room h = counted ∙ cond-false (room_fits l nodes w p z) (answered (tree_questions l nodes)) (Err Room) (and_right (leb (length nodes * l.servers) w) (leb (length nodes) p && leb (length nodes) z) (go h))
-      where
-        go : (p < length nodes) ⊎ ((length nodes ≤ p) × (z < length nodes)) → (leb (length nodes) p && leb (length nodes) z) ≡ false
-        go (inl b) = and_left (leb (length nodes) p) (leb (length nodes) z) (lt-leb (length nodes) p b)
-        go (inr b) = and_right (leb (length nodes) p) (leb (length nodes) z) (lt-leb (length nodes) z b.1)
 
     -- with room for the plan and the releases, the check is that of the search
     pub as_searched : length nodes ≤ p → length nodes ≤ z → query_check l nodes w p z ≡ search_answer l nodes w
@@ -52,23 +41,6 @@ module _ (l : Layout) (nodes : List Node) (w p z : ℕ) where
         go false = refl
 
 module _ {P : Type 0} (c : Pricing P) (may : ℕ → Profile → Bool) (l : Layout) (nodes : List Node) (work : List (Option (Place P))) (plan : List Step) (releases : List Release) where
-  -- a refused query: its refusal, and every buffer as it was
-  pub record Refused (e : TreeRefusal) : Type 0 where
-    pub answer : Err (refusal.Tree e) ≡ query_answer c may l nodes work plan releases
-    pub same_work : work ≡ work_after c may l nodes work plan releases
-    pub same_plan : plan ≡ plan_then c may l nodes work plan releases
-    pub same_releases : releases ≡ releases_then c may l nodes work plan releases
-
-  pub refused_by : (e : TreeRefusal) → checked c may l nodes work plan releases ≡ Err e → Refused e
-  refused_by e h =
-      let o = outcome_of c may l nodes in
-      record {
-        answer = sym (ap (λ (k : Result (Unit {0}) TreeRefusal). answer_from c may l nodes k o) h);
-        same_work = sym (ap (λ (k : Result (Unit {0}) TreeRefusal). once_checked k work (table_filled c may l nodes work)) h);
-        same_plan = sym (ap (λ (k : Result (Unit {0}) TreeRefusal). once_checked k plan (plan_by c may l nodes o plan)) h);
-        same_releases = sym (ap (λ (k : Result (Unit {0}) TreeRefusal). once_checked k releases (releases_by c may l nodes o releases)) h);
-      }
-
   -- an accepted one: what the search found decides
   pub record Accepted : Type 0 where
     pub answer : answer_by c may l nodes (outcome_of c may l nodes) ≡ query_answer c may l nodes work plan releases

@@ -78,7 +78,7 @@ mod tests {
             let profile = Profile {
                 shown: from_bits(bits % 4096),
                 path: from_bits(bits / 4096),
-                filtered: SmallSet::empty(),
+                ..Profile::default()
             };
             (0..4).all(|server| a.allows(server, &profile) == b.allows(server, &profile))
         })
