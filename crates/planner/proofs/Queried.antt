@@ -8,7 +8,7 @@ use Rattle.tariff.specs.Pricing.{Pricing, Lawful}
 use Rattle.queries.specs.declared.node.Node.{Node}
 use Rattle.queries.specs.declared.refusal.TreeRefusal.{TreeRefusal}
 use Rattle.queries.specs.declared.refusal.TreeRefusal.TheVariants.{Count, Room}
-use Rattle.queries.specs.Questions.{count_fits, tree_questions, answered}
+use Rattle.queries.specs.Questions.{count_fits, tree_questions, answered, tree_answer}
 use Rattle.queries.specs.Sound.{Sound}
 use Rattle.assignments.specs.declared.parts.Step.{Step}
 use Rattle.assignments.specs.declared.parts.Place.{Place}
@@ -20,6 +20,15 @@ use Rattle.planner.specs.declared.answer.QueryRefusal.{QueryRefusal}
 use Rattle.planner.specs.Queries.{room_fits, query_check, once_checked, table_filled, answer_by, plan_by, releases_by, answer_from, checked, query_answer, work_after, plan_then, releases_then}
 use Rattle.planner.specs.Judged.{Judged, BlockedAt}
 use Rattle.planner.proofs.Verdicts.{seated_by, blocked_by, blocked_at, planned_by}
+
+-- a tree that the search accepts passes every question of its own
+pub tree_accepted : (l : Layout) (nodes : List Node) (w : ℕ) → Ok tt ≡ search_answer l nodes w → tree_answer l nodes ≡ Ok tt
+tree_accepted l nodes w h = go (count_fits nodes) (leb (length nodes * l.servers) w) (answered (tree_questions l nodes)) h
+  where
+    go : (a b : Bool) (r : Result (Unit {0}) TreeRefusal) → Ok tt ≡ cond a (cond b r (Err Room)) (Err Count) → cond a r (Err Count) ≡ Ok tt
+    go true true r k = sym k
+    go true false r k = cc
+    go false b r k = cc
 
 -- the check of a query: its count, the room in its buffers, its nodes
 module _ (l : Layout) (nodes : List Node) (w p z : ℕ) where

@@ -89,5 +89,10 @@ pub fn plan_query<P: Policy, T: Tariff>(
         return Err(TreeRefusal::Room.into());
     }
     let found = search_tree(policy, tariff, nodes, work)?;
-    answer_found(&found.query, found.outcome, work, plan, releases)
+    let query = Checked {
+        chart: policy.chart(),
+        nodes,
+        profiles: found.profiles,
+    };
+    answer_found(&query, found.outcome, work, plan, releases)
 }

@@ -7,7 +7,6 @@ ghost use Rattle.queries.specs.Flat.{operands, profile_by, blank};
 ghost use Rattle.queries.specs.Sound.{Sound};
 ghost use Rattle.queries.specs.Questions.{uses, is_leaf, used_by, stands_in, operands_fit, attributes_fit, kind_fits, kind_refusal, node_questions, node_profile, questions_from, uses_from, answered, tree_questions, count_fits, tree_answer, verdict};
 
-use crate::checked::Checked;
 use crate::node::Node;
 use crate::refusal::TreeRefusal;
 use chart::Chart;
@@ -178,11 +177,11 @@ fn check_all(chart: &Chart, nodes: &[Node], profiles: &mut [Profile]) -> Result<
     check_used(used, (nodes.len() - 1) as u16)
 }
 
-// The query with the profile of each node, if the tree passes every question on this chart; else the first refusal.
-pub fn check_tree<'a>(chart: &'a Chart, nodes: &'a [Node]) -> Result<Checked<'a>, TreeRefusal>
+// The profile of each node, in the first places, if the tree passes every question on this chart; else the first refusal.
+pub fn check_tree(chart: &Chart, nodes: &[Node]) -> Result<[Profile; 63], TreeRefusal>
     ensures answer { verdict result ≡ tree_answer (layout chart.now) nodes.now }
-    ensures chart { IfOk result (λ v. v.chart.now ≡ chart.now) }
-    ensures nodes { IfOk result (λ v. v.nodes.now ≡ nodes.now) }
+    ensures sized { IfOk result (λ ps. length ps ≡ 63) }
+    ensures profiles { IfOk result (λ ps. (k : ℕ) → k < length nodes.now → slice_index_or ps k blank ≡ node_profile (layout chart.now) nodes.now k) }
     ensures sound { OnOk result (Sound (layout chart.now) nodes.now) }
 {
     if !has_fit_count(nodes) {
@@ -190,9 +189,5 @@ pub fn check_tree<'a>(chart: &'a Chart, nodes: &'a [Node]) -> Result<Checked<'a>
     }
     let mut profiles = [Profile::default(); 63];
     check_all(chart, nodes, &mut profiles)?;
-    Ok(Checked {
-        chart,
-        nodes,
-        profiles,
-    })
+    Ok(profiles)
 }

@@ -1,14 +1,13 @@
 -- What the search finds for a whole query.
-use Rattle.std.specs.Prelude.{◌≡◌, ℕ, ◌-◌, ◌*◌, Bool, List, ◌∷◌, length, Some, None, Ok, Err, Option, Result, nat_le}
+use Rattle.std.specs.Prelude.{◌≡◌, ℕ, ◌-◌, ◌*◌, ◌<◌, Bool, List, ◌∷◌, length, Some, None, Ok, Err, Option, Result, nat_le, slice_index_or}
 use Rattle.chart.specs.Layout.{Layout}
-use Rattle.chart.specs.Charts.{layout}
 use Rattle.profile.specs.declared.shape.Profile.{Profile}
 use Rattle.tariff.specs.Pricing.{Pricing}
 use Rattle.queries.specs.declared.node.Node.{Node}
 use Rattle.queries.specs.declared.refusal.TreeRefusal.{TreeRefusal}
 use Rattle.queries.specs.declared.refusal.TreeRefusal.TheVariants.{Count, Room}
-use Rattle.queries.specs.Flat.{tree_of}
-use Rattle.queries.specs.Questions.{count_fits, tree_questions, answered}
+use Rattle.queries.specs.Flat.{tree_of, blank}
+use Rattle.queries.specs.Questions.{count_fits, tree_questions, answered, node_profile}
 use Rattle.queries.specs.Sound.{Sound}
 use Rattle.assignments.specs.declared.parts.Place.{Place}
 use Rattle.assignments.specs.Cheapest.{cheapest}
@@ -46,9 +45,9 @@ abbrev pub TableAfter : {P : Type 0} → Pricing P → (ℕ → Profile → Bool
 TableAfter c may l nodes old new (Ok t) = Filled c may l nodes (length nodes) old new
 TableAfter c may l nodes old new (Err e) = new ≡ old
 
--- what a search that was not refused found: the query as it was checked on this chart, and the outcome for the root of a sound tree
+-- what a search that was not refused found: the profile of each node, and the outcome for the root of a sound tree
 pub record Found {P : Type 0} (c : Pricing P) (may : ℕ → Profile → Bool) (l : Layout) (nodes : List Node) (v : Searched P) : Type 0 where
   pub sound : Sound l nodes
-  pub charted : layout v.query.chart.now ≡ l
-  pub listed : v.query.nodes.now ≡ nodes
+  pub sized : length v.profiles ≡ 63
+  pub profiles : (k : ℕ) → k < length nodes → slice_index_or v.profiles k blank ≡ node_profile l nodes k
   pub outcome : v.outcome ≡ outcome_of c may l nodes

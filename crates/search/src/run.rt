@@ -11,7 +11,8 @@ use crate::root::{Seat, choose, lowest_empty};
 use crate::table::Table;
 use assignments::Place;
 use policy::Policy;
-use queries::{Checked, Node, TreeRefusal, check_tree, has_fit_count};
+use profile::Profile;
+use queries::{Checked, Node, TreeRefusal, has_fit_count};
 use tariff::Tariff;
 
 // No safe assignment: the lowest node whose own subtree has none.
@@ -20,10 +21,10 @@ pub struct Blocked {
     pub node: u16,
 }
 
-// A query that passed its questions, and what was found for the root: the cheapest executor, or what blocks.
+// The profile of each node, in the first places, and what was found for the root: the cheapest executor, or what blocks.
 #[derive(Clone, Copy)]
-pub struct Searched<'a, P> {
-    pub query: Checked<'a>,
+pub struct Searched<P> {
+    pub profiles: [Profile; 63],
     pub outcome: Result<Seat<P>, Blocked>,
 }
 
@@ -66,14 +67,14 @@ fn run_search<P: Policy, T: Tariff>(
     read_outcome(tariff, &table, query.nodes.len() as u16)
 }
 
-// Searches a query over any policy, at any tariff: fills the work table, and answers the query with each node's profile and what was found
+// Searches a query over any policy, at any tariff: fills the work table, and answers each node's profile and what was found
 // for the root; or the first refusal, with the table as it was.
-pub fn search_tree<'a, P: Policy, T: Tariff>(
-    policy: &'a P,
+pub fn search_tree<P: Policy, T: Tariff>(
+    policy: &P,
     tariff: &T,
-    nodes: &'a [Node],
+    nodes: &[Node],
     work: &mut [Option<Place<T::Price>>],
-) -> Result<Searched<'a, T::Price>, TreeRefusal>
+) -> Result<Searched<T::Price>, TreeRefusal>
     ensures answer { verdict result ≡ search_answer (layout (P.Policy.charted policy.now)) nodes.now (length work.old) }
     ensures table { TableAfter (T.pricing tariff.now) (P.Policy.reading policy.now (P.Policy.rules policy.now)) (layout (P.Policy.charted policy.now)) nodes.now work.old work.new (verdict result) }
     ensures found { IfOk result (λ v. Found (T.pricing tariff.now) (P.Policy.reading policy.now (P.Policy.rules policy.now)) (layout (P.Policy.charted policy.now)) nodes.now v) }
@@ -85,7 +86,10 @@ pub fn search_tree<'a, P: Policy, T: Tariff>(
     if work.len() < nodes.len() * chart.servers() as usize {
         return Err(TreeRefusal::Room);
     }
-    let query = check_tree(chart, nodes)?;
+    let query = Checked::new(chart, nodes)?;
     let outcome = run_search(policy, tariff, &query, work);
-    Ok(Searched { query, outcome })
+    Ok(Searched {
+        profiles: query.profiles,
+        outcome,
+    })
 }

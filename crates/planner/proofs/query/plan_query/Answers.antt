@@ -1,14 +1,14 @@
-use Rattle.std.proofs.Common.{◌≡◌, true, List, length, sym, ap, ◌∙◌, subst}
+use Rattle.std.proofs.Common.{◌≡◌, true, length, Ok, sym, ap, ◌∙◌, subst}
 use Rattle.chart.specs.Layout.{Layout}
-use Rattle.queries.specs.declared.node.Node.{Node}
+use Rattle.chart.specs.declared.state.Chart.{Chart}
 use Rattle.chart.specs.Charts.{layout}
 use Rattle.chart.proofs.Sound.{chart_sound}
-use Rattle.queries.specs.Questions.{count_fits}
+use Rattle.queries.specs.Questions.{count_fits, tree_answer, node_profile}
 use Rattle.search.specs.Rows.{Filled}
 use Rattle.search.specs.Outcomes.{Outcome, outcome_of}
 use Rattle.planner.specs.Queries.{AnsweredBy, answer_by, plan_by, releases_by}
 use Rattle.planner.proofs.Buffers.{table_is}
-use Rattle.planner.proofs.Queried.{as_searched, accepted_by, judged_by}
+use Rattle.planner.proofs.Queried.{as_searched, accepted_by, judged_by, tree_accepted}
 use Rattle.planner.proofs.query.plan_query.Goals as goal
 
 pub returns : goal.returns
@@ -24,18 +24,13 @@ returns g c =
     let new = c.search_tree.new.work in
     let h = c.in_ok-found.ensures in
     let o = c.in_ok-found.found.outcome in
-    let q = c.in_ok-found.found.query in
     let fit : count_fits nodes ≡ true = sym c.has_fit_count.ensures ∙ c.if-not-has_fit_count.false in
     let yes' = accepted_by pricing may l nodes work plan releases
     (as_searched l nodes (length work) (length plan) (length releases) fit c.if-plan-nodes.false c.if-releases-nodes.false ∙ sym h.answer) in
     let wrote = subst
-    (λ (ns : List Node). Filled pricing may l ns (length ns) work new → o ≡ outcome_of pricing may l ns
-    → AnsweredBy pricing may l ns o plan c.answer_found.new.plan releases c.answer_found.new.releases c.answer_found.result)
-    h.found.listed
-    (subst
-    (λ (v : Layout). Filled pricing may v q.nodes.now (length q.nodes.now) work new → o ≡ outcome_of pricing may v q.nodes.now
-    → AnsweredBy pricing may v q.nodes.now o plan c.answer_found.new.plan releases c.answer_found.new.releases c.answer_found.result)
-    h.found.charted (c.answer_found.ensures.wrote pricing may work))
+    (λ (v : Layout). Filled pricing may v nodes (length nodes) work new → o ≡ outcome_of pricing may v nodes
+    → AnsweredBy pricing may v nodes o plan c.answer_found.new.plan releases c.answer_found.new.releases c.answer_found.result)
+    (ap layout c.chart.ensures) (c.answer_found.ensures.wrote pricing may work)
     h.table h.found.outcome in
     let answer = wrote.answer ∙ ap (answer_by pricing may l nodes) h.found.outcome in
     let planned = wrote.plan ∙ ap (λ (x : Outcome g.row.T-Price.Denot). plan_by pricing may l nodes x plan) h.found.outcome in
@@ -48,4 +43,16 @@ returns g c =
       releases = listed ∙ yes'.listed;
       judged = judged_by pricing may l nodes work plan releases (g.met.T.Tariff.lawful t) charted h.found.sound new h.table c.if-plan-nodes.false
           _ _ _ _ c.answer_found.ensures.work planned listed answer;
+    }
+
+pub invariant_of-query : goal.invariant_of-query
+invariant_of-query g c =
+    let nodes = c.args.nodes.now in
+    let h = c.in_ok-found.ensures in
+    let same = sym c.chart.ensures in
+    let accepted = tree_accepted (layout (g.P.Policy.charted c.args.policy.now)) nodes (length c.args.work.now) h.answer in
+    record {
+      accepted = subst (λ (v : Chart). tree_answer (layout v) nodes ≡ Ok tt) same accepted;
+      sized = h.found.sized;
+      profiled = λ k below. h.found.profiles k below ∙ ap (λ (v : Chart). node_profile (layout v) nodes k) same;
     }

@@ -1,9 +1,11 @@
-use Rattle.std.proofs.Common.{◌≡◌, ℕ, ◌*◌, true, cond, leb, List, length, Ok, Err, sym, ap, ◌∙◌, subst, arith}
+use Rattle.std.proofs.Common.{◌≡◌, ℕ, ◌*◌, ◌<◌, true, cond, leb, List, length, get_or, Ok, Err, sym, ap, ◌∙◌, subst, arith}
 use Rattle.std.proofs.lemmas.Bool.{cond-true, le-leb}
 use Rattle.chart.specs.declared.state.Chart.{Chart}
 use Rattle.chart.specs.Charts.{layout}
 use Rattle.queries.specs.declared.refusal.TreeRefusal.TheVariants.{Count, Room}
-use Rattle.queries.specs.Questions.{tree_questions, answered, count_fits, tree_answer}
+use Rattle.queries.specs.Flat.{blank}
+use Rattle.queries.specs.Questions.{tree_questions, answered, count_fits, tree_answer, node_profile}
+use Rattle.queries.proofs.Accepted.{checked_profiles}
 use Rattle.queries.specs.Sound.{Sound}
 use Rattle.queries.specs.declared.node.Node.{Node}
 use Rattle.search.specs.Rows.{Filled}
@@ -25,6 +27,7 @@ run_search-outcome-requires g c =
 pub returns : goal.returns
 returns g c =
     let l = layout (g.P.Policy.charted c.args.policy.now) in
+    let q = c.in_ok-query.query in
     let nodes = c.args.nodes.now in
     let h = c.in_ok-query.ensures in
     let e = c.chart-chart.ensures in
@@ -39,8 +42,8 @@ returns g c =
       table = subst (λ (ns : List Node). Filled (g.T.Tariff.pricing c.args.tariff.now) (g.P.Policy.reading c.args.policy.now (g.P.Policy.rules c.args.policy.now)) l ns (length ns) c.args.work.now c.run_search-outcome.new.work) h.nodes c.run_search-outcome.ensures.filled;
       found = record {
         sound = subst (λ (v : Chart). Sound (layout v) nodes) e h.sound;
-        charted = ap layout (h.chart ∙ e);
-        listed = h.nodes;
+        sized = q.sized;
+        profiles = subst (λ (ns : List Node). (k : ℕ) → k < length ns → get_or q.profiles k blank ≡ node_profile l ns k) h.nodes (checked_profiles q (g.P.Policy.charted c.args.policy.now) (h.chart ∙ e));
         outcome = c.run_search-outcome.ensures.outcome ∙ ap (outcome_of (g.T.Tariff.pricing c.args.tariff.now) (g.P.Policy.reading c.args.policy.now (g.P.Policy.rules c.args.policy.now)) l) h.nodes;
       };
     }
