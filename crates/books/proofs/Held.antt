@@ -182,7 +182,3 @@ pub granted_held : (slots : List (Option Rule)) → flat_map slot_views slots �
 granted_held [] = refl
 granted_held (None ∷ slots) = granted_held slots
 granted_held (Some r ∷ slots) = ap (λ vs. r.given.view ∷ vs) (granted_held slots)
-
-pub granted_records : (records : List RuleRecord) → flat_map (λ (r : RuleRecord). r.view ∷ []) records ≡ granted records
-granted_records [] = refl
-granted_records (r ∷ records) = ap (λ vs. r.view ∷ vs) (granted_records records)

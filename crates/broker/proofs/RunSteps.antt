@@ -1,73 +1,20 @@
 -- Runs of calls, call by call.
-use Rattle.std.proofs.Common.{◌≡◌, ℕ, ◌+◌, ◌<◌, Bool, List, [], ◌∷◌, ◌++◌, length, get_or, drop, set, Option, Result, sym, refl, ap, ◌∙◌, subst, arith, Bor}
+use Rattle.std.proofs.Common.{◌≡◌, ℕ, ◌+◌, ◌<◌, Bool, List, [], ◌∷◌, ◌++◌, length, get_or, drop, set, Option, sym, refl, ap, ◌∙◌, subst, arith}
 use Rattle.std.proofs.lemmas.List.{append_assoc, append-nil, drop_more, set_at}
 use Rattle.chart.specs.Layout.{Layout}
 use Rattle.tariff.specs.Pricing.{Pricing}
-use Rattle.queries.specs.declared.node.Node.{Node}
 use Rattle.rules.specs.declared.view.RuleRecord.{RuleRecord}
 use Rattle.policy.specs.Same.{Same}
 use Rattle.assignments.specs.declared.parts.Step.{Step}
 use Rattle.assignments.specs.declared.parts.Place.{Place}
 use Rattle.assignments.specs.declared.parts.Release.{Release}
-use Rattle.planner.specs.declared.answer.Planned as answer
-use Rattle.planner.specs.declared.answer.QueryRefusal.{QueryRefusal}
 use Rattle.broker.specs.declared.run.Call.{Call}
-use Rattle.broker.specs.declared.run.Call.TheVariants.{Enter, Withdraw, Query}
 use Rattle.broker.specs.declared.run.Answer.{Answer}
-use Rattle.broker.specs.declared.run.Answer.TheVariants.{Booked, Planned}
 use Rattle.broker.specs.Reference.{Reading}
-use Rattle.broker.specs.Histories as history
-use Rattle.broker.specs.Histories.{Event, entered, withdrew, queried, Reached}
-use Rattle.broker.specs.Calls.{Enters, Withdraws, Judges}
+use Rattle.broker.specs.Histories.{Event, Reached}
 use Rattle.broker.specs.Runs.{State, state_by, answer_to, state_after, event_of, answers_to, state_then, events_of, Led, Stepped}
 
 module _ {P : Type 0} (l : Layout) (fits : List RuleRecord → Bool) (reading : Reading) (c : Pricing P) where
-  -- ---- one call
-  module _ (old new : List RuleRecord) (work : List (Option (Place P))) (plan : List Step) (releases : List Release) where
-    pub stepped_entry : (k : Call) (r : RuleRecord) (a : history.Answer) → k ≡ Enter r → Enters l fits old new r a → Stepped l fits reading c old (state_by work plan releases) k (Booked a) new work plan releases
-    stepped_entry k r a is e =
-        subst (λ (v : Call). Stepped l fits reading c old (state_by work plan releases) v (Booked a) new work plan releases) (sym is)
-        (record {
-          answers = λ rules h. ap Booked (e.answers rules h);
-          led = λ rules h. record {
-            rules_then = e.rules_then rules h;
-            work_then = refl;
-            plan_then = refl;
-            releases_then = refl;
-            goes_on = λ first t was. subst (λ (b : history.Answer). Reached l fits new first (t ++ entered r b ∷ [])) (e.answers rules h) (e.goes_on first t was).reached;
-          };
-        })
-
-    pub stepped_withdrawal : (k : Call) (n : ℕ) (a : history.Answer) → k ≡ Withdraw n → Withdraws l fits old new n a → Stepped l fits reading c old (state_by work plan releases) k (Booked a) new work plan releases
-    stepped_withdrawal k n a is e =
-        subst (λ (v : Call). Stepped l fits reading c old (state_by work plan releases) v (Booked a) new work plan releases) (sym is)
-        (record {
-          answers = λ rules h. ap Booked (e.answers rules h);
-          led = λ rules h. record {
-            rules_then = e.rules_then rules h;
-            work_then = refl;
-            plan_then = refl;
-            releases_then = refl;
-            goes_on = λ first t was. subst (λ (b : history.Answer). Reached l fits new first (t ++ withdrew n b ∷ [])) (e.answers rules h) (e.goes_on first t was).reached;
-          };
-        })
-
-  pub stepped_query : (rules : List RuleRecord) (k : Call) (q : Bor (List Node)) (work work' : List (Option (Place P))) (plan plan' : List Step) (releases releases' : List Release) (r : Result (answer.Planned P) QueryRefusal)
-      → k ≡ Query q → Judges l fits reading rules c q.now work work' plan plan' releases releases' r
-      → Stepped l fits reading c rules (state_by work plan releases) k (Planned r) rules work' plan' releases'
-  stepped_query rules k q work work' plan plan' releases releases' r is e =
-      subst (λ (v : Call). Stepped l fits reading c rules (state_by work plan releases) v (Planned r) rules work' plan' releases') (sym is)
-      (record {
-        answers = λ same h. ap Planned (e.answers same h).answers;
-        led = λ same h. record {
-          rules_then = h;
-          work_then = (e.answers same h).table;
-          plan_then = (e.answers same h).steps;
-          releases_then = (e.answers same h).list;
-          goes_on = λ first t was. (e.goes_on first t was).reached;
-        };
-      })
-
   -- ---- one more call
   state_push : (s : State P) (ks : List Call) (k : Call) → state_then l fits reading c s (ks ++ k ∷ []) ≡ state_after l fits reading c (state_then l fits reading c s ks) k
   state_push s [] k = refl

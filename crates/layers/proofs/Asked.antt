@@ -1,6 +1,6 @@
 -- Questions asked one after another.
-use Rattle.std.proofs.Common.{◌≡◌, ℕ, ◌+◌, ◌<◌, ◌≤◌, Bool, true, false, cond, List, [], ◌∷◌, ◌++◌, length, get_or, drop, Ok, Err, sym, refl, ap, ◌∙◌}
-use Rattle.std.proofs.lemmas.List.{at_drop_more, at_drop_all}
+use Rattle.std.proofs.Common.{◌≡◌, ℕ, ◌+◌, ◌<◌, Bool, true, false, cond, List, [], ◌∷◌, ◌++◌, length, get_or, drop, Ok, Err, sym, refl, ap, ◌∙◌}
+use Rattle.std.proofs.lemmas.List.{at_drop_more}
 use Rattle.chart.specs.Questions.{asked}
 use Rattle.chart.specs.Layout.{Layout}
 use Rattle.layers.specs.declared.denial.Denial.{Denial}
@@ -39,6 +39,3 @@ module _ (l : Layout) (ds : List Denial) (i : ℕ) (so_far : asked (denials_ques
       let asked_now : denial_answer l i x ≡ Ok tt = ap (λ k. denial_answer l k x) (sym same) ∙ sym h in
       sym (asked_passed tt (denial_questions l i x) (denials_questions l (i + 1) (drop (i + 1) ds)) asked_now)
       ∙ sym (at_drop_more (λ ys. asked (denials_questions l i ys) tt) ds i d below) ∙ so_far
-
-  pub passed_all : length ds ≤ i → Ok tt ≡ denials_answer l ds
-  passed_all past = sym (at_drop_all (λ ys. asked (denials_questions l i ys) tt) ds i past) ∙ so_far

@@ -1,12 +1,8 @@
-ghost use Rattle.std.specs.Prelude.{◌≡◌, true, [], ◌∷◌, nat_le};
+ghost use Rattle.std.specs.Prelude.{◌≡◌, true, [], nat_le};
 ghost use Rattle.std.specs.List.{list_all, list_any};
 ghost use Rattle.std.proofs.Common.{ap, rules, arith};
 ghost use Rattle.chart.specs.Charts.{layout};
-ghost use Rattle.chart.specs.Layout.{Layout};
 ghost use Rattle.rules.specs.Rules.{well_formed};
-ghost use Rattle.policy.specs.Reading.{inside};
-ghost use Rattle.policy.specs.Books.{place_answer, rules_after, entry_answer, entry_list, withdrawal_answer, withdrawal_list};
-ghost use Rattle.policy.specs.Same.{Same};
 ghost use Rattle.odd.specs.Loose.{rules_of, lets as rule_lets, loose_reading, one_fits};
 ghost use Rattle.odd.specs.LooseLaws.{loose_lawful};
 ghost use Rattle.policy.proofs.Orders.{same_length};

@@ -1,10 +1,7 @@
-ghost use Rattle.std.specs.Prelude.{◌≡◌, ℕ, ◌-◌, ◌<◌, ◌≤◌, Bool, true, List, length, Some, Option as Maybe, slice_index_or};
+ghost use Rattle.std.specs.Prelude.{◌≡◌, ℕ, ◌-◌, ◌<◌, ◌≤◌, Bool, true, List, length, Some, Option as Maybe};
 ghost use Rattle.chart.specs.Charts.{layout};
 ghost use Rattle.profile.specs.declared.shape.Profile.{Profile as Shape};
 ghost use Rattle.tariff.specs.Pricing.{Pricing};
-ghost use Rattle.queries.specs.Flat.{blank};
-ghost use Rattle.queries.specs.Questions.{node_profile};
-ghost use Rattle.queries.specs.Sound.{Sound};
 ghost use Rattle.assignments.specs.declared.parts.Place.{Place as Entry};
 ghost use Rattle.assignments.specs.Table.{place as place_of};
 ghost use Rattle.search.specs.Rows.{Filled};

@@ -1,25 +1,19 @@
 -- A row of the table, place by place.
-use Rattle.std.proofs.Common.{◌≡◌, ℕ, ◌+◌, ◌*◌, ◌<◌, ◌≤◌, Bool, List, [], ◌∷◌, length, get_or, set, None, Option, refl, ap, ◌∙◌, ap₂, arith, length-set, below_more}
+use Rattle.std.proofs.Common.{◌≡◌, ℕ, ◌+◌, ◌*◌, ◌<◌, ◌≤◌, Bool, List, [], ◌∷◌, length, get_or, set, None, Option, refl, ap, ◌∙◌, arith, length-set, below_more}
 use Rattle.std.specs.List.{AllByRecursion}
 use Rattle.std.proofs.lemmas.List.{get_or-set_same, get_or-set_other}
 use Rattle.std.proofs.lemmas.Nat.{mul-le}
 use Rattle.chart.specs.Layout.{Layout}
 use Rattle.profile.specs.declared.shape.Profile.{Profile}
-use Rattle.profile.specs.declared.join.Join.{Join as Pair}
 use Rattle.tariff.specs.Pricing.{Pricing}
 use Rattle.queries.specs.declared.node.Node.{Node}
 use Rattle.queries.specs.declared.node.Node.TheVariants.{Leaf, Project, Filter, Join}
 use Rattle.queries.specs.Trees.{between}
 use Rattle.queries.specs.Flat.{operands}
 use Rattle.assignments.specs.declared.parts.Place.{Place}
-use Rattle.assignments.specs.Table.{kept, best}
+use Rattle.assignments.specs.Table.{kept}
 use Rattle.assignments.proofs.Options.{best_like}
-use Rattle.search.specs.Rows.{place_at, leaf_place, place_from, Row}
-use Rattle.search.specs.declared.rows.Source.TheVariants.{Home, Operand, Options}
-use Rattle.search.specs.declared.options.Operands.{Operands}
-use Rattle.search.specs.declared.sends.Sends.{Sends}
-use Rattle.search.specs.Sends.{Sent}
-use Rattle.search.specs.Sources.{Sourced}
+use Rattle.search.specs.Rows.{place_at, place_from, Row}
 
 -- a row ends before the next begins
 pub row_ends : (j k n : ℕ) → j < k → j * n + n ≤ k * n
@@ -68,24 +62,3 @@ row_turn c may n l f x node i old t new p earlier below room r e w =
     let F = place_from c may n l f x (place_at old n) in
     row_more n node F old i t new p below room r w
     (e ∙ place_like c may n l f x (place_at t n) (place_at old n) i below (all_kept n node (place_at t n) (place_at old n) (λ j u h b. row_earlier n node F old i t r j u h b) (operands x) earlier))
-
--- the place by its source
-module _ {P : Type 0} (c : Pricing P) (may : ℕ → Profile → Bool) (n : ℕ) (l : Layout) (f : ℕ → Profile) (T : ℕ → ℕ → Option (Place P)) (s : ℕ) where
-  pub by_home : (x : Node) (h : Option ℕ) (r : Option (Place P)) → Sourced l may n f x (Home h) → r ≡ leaf_place c h s → r ≡ place_from c may n l f x T s
-  by_home (Leaf q) h r e k = k ∙ ap (λ (o : Option ℕ). leaf_place c o s) e
-  by_home (Project j a) h r e k = absurd e
-  by_home (Filter j a) h r e k = absurd e
-  by_home (Join a b k) h r e q = absurd e
-
-  pub by_operand : (x : Node) (i : ℕ) (r : Option (Place P)) → Sourced l may n f x (Operand i) → r ≡ kept s (T i s) → r ≡ place_from c may n l f x T s
-  by_operand (Leaf q) i r e k = absurd e
-  by_operand (Project j a) i r e k = k ∙ ap (λ (o : ℕ). kept s (T o s)) e
-  by_operand (Filter j a) i r e k = k ∙ ap (λ (o : ℕ). kept s (T o s)) e
-  by_operand (Join a b k) i r e q = absurd e
-
-  pub by_options : (x : Node) (o : Operands) (v : Sends) (r : Option (Place P)) → Sourced l may n f x (Options o v)
-      → ((j : Pair) → Sent may n j v → r ≡ best c may n j (T o.left) (T o.right) s) → r ≡ place_from c may n l f x T s
-  by_options (Leaf q) o v r e k = absurd e
-  by_options (Project j a) o v r e k = absurd e
-  by_options (Filter j a) o v r e k = absurd e
-  by_options (Join a b k) o v r e q = q (between l (f a) (f b) k) e.2 ∙ ap₂ (λ (i j : ℕ). best c may n (between l (f a) (f b) k) (T i) (T j) s) e.0 e.1

@@ -1,8 +1,6 @@
-ghost use Rattle.std.specs.Prelude.{◌≡◌, ℕ, ◌*◌, ◌<◌, ◌≤◌, length, IfOk, slice_index_or};
+ghost use Rattle.std.specs.Prelude.{◌≡◌, ℕ, ◌*◌, ◌<◌, ◌≤◌, length, IfOk};
 ghost use Rattle.chart.specs.Charts.{layout};
-ghost use Rattle.queries.specs.Flat.{blank};
-ghost use Rattle.queries.specs.Questions.{node_profile, verdict};
-ghost use Rattle.queries.specs.Sound.{Sound};
+ghost use Rattle.queries.specs.Questions.{verdict};
 ghost use Rattle.search.specs.Rows.{place_at, Filled};
 ghost use Rattle.search.specs.Outcomes.{read_from, outcome_of, search_answer, TableAfter, Found};
 
@@ -14,9 +12,11 @@ use policy::Policy;
 use profile::Profile;
 use queries::{Checked, Node, TreeRefusal, has_fit_count};
 use tariff::Tariff;
+use thiserror::Error;
 
 // No safe assignment: the lowest node whose own subtree has none.
-#[derive(Clone, Copy)]
+#[derive(Clone, Copy, Debug, PartialEq, Eq, Error)]
+#[error("node {node}: no safe assignment")]
 pub struct Blocked {
     pub node: u16,
 }

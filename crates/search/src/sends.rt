@@ -1,5 +1,4 @@
-ghost use Rattle.std.specs.Prelude.{◌≡◌, ℕ, ◌<◌, ◌≤◌, Bool, ◌||◌, ◌==◌};
-ghost use Rattle.sets.specs.Sets.{has};
+ghost use Rattle.std.specs.Prelude.{◌≡◌, ℕ, ◌<◌, ◌≤◌, Bool};
 ghost use Rattle.profile.specs.declared.shape.Profile.{Profile as Shape};
 ghost use Rattle.profile.specs.declared.join.Join.{Join as Pair};
 ghost use Rattle.assignments.specs.Modes.{releases, allowed};

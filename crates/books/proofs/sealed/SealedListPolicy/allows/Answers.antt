@@ -1,7 +1,0 @@
-use Rattle.std.proofs.Common.{ap, ◌∙◌}
-use Rattle.policy.specs.Reading.{exact}
-use Rattle.books.proofs.Held.{granted_records}
-use Rattle.books.proofs.sealed.SealedListPolicy.allows.Goals as goal
-
-pub returns : goal.returns
-returns c = c.some_view_allows.ensures ∙ ap (λ vs. exact vs c.args.server c.args.profile.now) (granted_records c.args.self.now.records.now)
