@@ -1,5 +1,4 @@
-ghost use Rattle.std.specs.Prelude.{◌≡◌, not, ◌&&◌, ◌==◌, Decides};
-ghost use Rattle.sets.specs.Sets.{subset};
+ghost use Rattle.std.specs.Prelude.{◌≡◌, not, ◌&&◌, Decides};
 ghost use Rattle.layers.specs.Readings.{hits, denied, Denied};
 ghost use Rattle.layers.specs.Lawful.{denials_lawful};
 ghost use Rattle.std.proofs.Common.{rules};
@@ -10,7 +9,6 @@ use chart::Chart;
 use policy::{Book, BookRefusal, Policy};
 use profile::Profile;
 use rules::RuleRecord;
-use sets::SmallSet;
 
 // Denials over any policy.
 #[derive(Drop)]
@@ -19,10 +17,11 @@ pub struct Denials<P> {
     pub(crate) denials: ArrayVec<Denial, 32>,
 }
 
-// Whether a denial forbids the server to see all of these attributes.
-fn denial_hits(denial: Denial, server: u16, seen: SmallSet) -> bool
-    ensures { result ≡ (denial.server == server && subset denial.attributes seen) }
+// Whether a denial forbids the server to see the profile.
+fn denial_hits(denial: Denial, server: u16, profile: &Profile) -> bool
+    ensures { result ≡ hits server profile.now denial }
 {
+    let seen = profile.shown.union(profile.filtered);
     denial.server == server && denial.attributes.is_subset(seen)
 }
 
@@ -31,10 +30,9 @@ fn some_denial_hits(denials: &[Denial], server: u16, profile: &Profile) -> bool
     ensures value { result ≡ denied denials.now server profile.now }
     ensures means { Decides result (Denied denials.now server profile.now) }
 {
-    let seen = profile.shown.union(profile.filtered);
     denials
         .iter()
-        .any(move |denial| denial_hits(*denial, server, seen))
+        .any(|denial| denial_hits(*denial, server, profile))
 }
 
 impl<P: Policy> Policy for Denials<P> {
