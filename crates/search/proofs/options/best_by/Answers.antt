@@ -1,5 +1,4 @@
-use Rattle.std.proofs.Common.{◌≡◌, None, Option, sym, ap, ◌∙◌, ⊎_elim}
-use Rattle.assignments.specs.declared.parts.Place.{Place}
+use Rattle.std.proofs.Common.{sym, ap, ◌∙◌, ⊎_elim}
 use Rattle.search.specs.Rows.{place_at}
 use Rattle.search.proofs.Offers.{none_left, none_right}
 use Rattle.search.proofs.options.best_by.Goals as goal

@@ -3,7 +3,7 @@ use Rattle.chart.specs.declared.state.Chart.{Chart}
 use Rattle.chart.specs.Charts.{layout}
 use Rattle.rules.specs.declared.view.View.{View}
 use Rattle.members.specs.Members.{with_new, members}
-use Rattle.members.specs.Table.{Growing, Holds}
+use Rattle.members.specs.Table.{Growing}
 use Rattle.members.proofs.Growing.{growing_start, growing_le}
 use Rattle.policy.specs.Reading.{granted}
 use Rattle.books.specs.Slots.{held}
