@@ -95,6 +95,7 @@ fn show_composition(rt: &HostRuntime, book: &mut ComposedBook, sets: &Sets) -> a
 
 // A denial and a carrier over the same book.
 fn show_layers(rt: &HostRuntime, book: ComposedBook, sets: &Sets) -> anyhow::Result<()> {
+    // `?` would copy the stack of layers once more, and the tour runs on a stack of 64 KiB.
     let Ok(carried) = Carrier::new(book, Some(0)) else {
         return Err(anyhow!("the carrier was refused"));
     };
