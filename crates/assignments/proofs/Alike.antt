@@ -10,8 +10,8 @@ use Rattle.assignments.specs.declared.mode.Mode.{Mode}
 use Rattle.assignments.specs.declared.mode.Mode.TheVariants.{Local}
 use Rattle.assignments.specs.declared.parts.Step.{Step}
 use Rattle.assignments.specs.declared.parts.Place.{Place}
-use Rattle.assignments.specs.Modes.{Joins, releases, allowed}
-use Rattle.assignments.specs.Assignments.{Steps, executor, Obeys, Safe, own_releases, own_price, cost, Way}
+use Rattle.assignments.specs.Modes.{Joins, other_of, releases, allowed}
+use Rattle.assignments.specs.Assignments.{Steps, executor, Obeys, Safe, own_releases, own_price, cost, other, Way}
 use Rattle.assignments.specs.Table.{place}
 use Rattle.assignments.specs.Follows.{Holds, Follows}
 
@@ -97,6 +97,12 @@ module _ (e f : Steps) where
       let right = cost_like l c b (agree_right i k a b g) in
       let own = ap (own_price c) (releases_like l i k a b g) in
       cc
+
+  pub other_like : (t : Tree) → Agree t e f → other e t ≡ other f t
+  other_like (leaf i r) g = ap (λ (v : Step). v.executor) (agree_top (leaf i r) g)
+  other_like (projection i s t) g = ap (λ (v : Step). v.executor) (agree_top (projection i s t) g)
+  other_like (filtering i s t) g = ap (λ (v : Step). v.executor) (agree_top (filtering i s t) g)
+  other_like (join i k a b) g = at_join other_of i k a b g
 
   pub way_like : (l : Layout) (may : ℕ → Profile → Bool) (t : Tree) (s : ℕ) → Agree t e f → Way l may t s e → Way l may t s f
   way_like l may t s g h = record {

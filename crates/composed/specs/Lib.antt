@@ -1,5 +1,6 @@
 pub mod Composed
 pub mod Lawful
 pub mod Table
+pub mod Kept
 pub mod AnyBook
 pub mod Books

@@ -13,6 +13,6 @@ listed t = take t.count t.places
 abbrev pub Fills : Option (Unit {0}) → MemberTable → List View → Type 0
 Fills r t views = MatchOption r (256 < length views) (λ u. listed t ≡ views)
 
--- a table of the members of these views, each once, or there are too many of them
-abbrev pub Gathers : Layout → List View → Option MemberTable → Type 0
-Gathers l given r = MatchOption r (256 < length (members l given)) (λ t. Holds l given t.places t.count)
+-- the table has the members of these views, each once, or there are too many of them for it
+abbrev pub Gathers : Layout → List View → Option (Unit {0}) → MemberTable → Type 0
+Gathers l given r t = MatchOption r (256 < length (members l given)) (λ u. Holds l given t.places t.count)

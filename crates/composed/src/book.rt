@@ -7,6 +7,7 @@ ghost use Rattle.composed.specs.Composed.{composed_members, composed_reading, co
 ghost use Rattle.composed.specs.Lawful.{composed_lawful};
 ghost use Rattle.composed.specs.Books.{lone_fits, less_fits, alike_fits};
 
+use crate::entries::{enter_rule, take_rule};
 use crate::table::MemberTable;
 use books::ExactBook;
 use chart::Chart;
@@ -69,26 +70,10 @@ impl Book for ComposedBook {
     ghost alike = { λ s xs ys h. alike_fits s.exact.chart xs ys h };
 
     fn enter(&mut self, given: RuleRecord) -> Result<(), BookRefusal> {
-        let mut more = self.exact;
-        more.enter(given)?;
-        let members = MemberTable::of(&more).ok_or(BookRefusal::Full)?;
-        *self = ComposedBook {
-            exact: more,
-            members,
-        };
-        Ok(())
+        enter_rule(&mut self.exact, &mut self.members, given)
     }
 
     fn withdraw(&mut self, number: u16) -> Result<(), BookRefusal> {
-        let mut fewer = self.exact;
-        fewer.withdraw(number)?;
-        let Some(members) = MemberTable::of(&fewer) else {
-            unreachable()
-        };
-        *self = ComposedBook {
-            exact: fewer,
-            members,
-        };
-        Ok(())
+        take_rule(&mut self.exact, &mut self.members, number)
     }
 }

@@ -3,6 +3,7 @@
 
 mod any;
 mod book;
+mod entries;
 mod pairs;
 mod table;
 

@@ -110,13 +110,13 @@ impl MemberTable {
         Some(())
     }
 
-    // The members of the rules of a book, each once; none where there are more than 256.
-    pub(crate) fn of(book: &ExactBook) -> Option<MemberTable>
-        ensures { Gathers (layout book.now.chart) (granted (held book.now.slots)) result }
+    // Fills the table anew with the members of the rules of a book, each once; none where there are more than 256, and then
+    // what it lists means nothing.
+    pub(crate) fn refill(&mut self, book: &ExactBook) -> Option<()>
+        ensures { Gathers (layout book.now.chart) (granted (held book.now.slots)) result self.new }
     {
-        let mut table = MemberTable::empty();
-        table.add_held(book.slots())?;
-        table.close(book.chart())?;
-        Some(table)
+        self.count = 0;
+        self.add_held(book.slots())?;
+        self.close(book.chart())
     }
 }

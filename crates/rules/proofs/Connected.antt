@@ -79,6 +79,13 @@ module _ (c : Chart) where
   pub link_below : (k i : ℕ) → has (link_relations (layout c) k) i ≡ true → i < 32
   link_below k i h = ends_below i (ends_of (layout c) k) h
 
+  pub touched_below : (attributes path : SmallSet) (i : ℕ) → has (touched (layout c) attributes path) i ≡ true → i < 32
+  touched_below attributes path i h =
+      elim (union_cases (relations_of (layout c) attributes) (gather (link_relations (layout c)) (members path)) i h) [
+        | inl own ↦ relations_below attributes i own
+        | inr joined ↦ let g = gather_member (link_relations (layout c)) path i joined in link_below g.0 i g.2
+      ]
+
   -- a link with relations is one of the chart's
   pub link_numbered : (k i : ℕ) → has (link_relations (layout c) k) i ≡ true → k < 64
   link_numbered k i h = go (slice_get (layout c).links k) refl h

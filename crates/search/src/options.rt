@@ -1,4 +1,4 @@
-ghost use Rattle.std.specs.Prelude.{◌≡◌, ℕ, ◌<◌, Bool, ◌&&◌, Some};
+ghost use Rattle.std.specs.Prelude.{◌≡◌, ℕ, ◌<◌, Bool, ◌&&◌, ◌⊎◌, Some};
 ghost use Rattle.profile.specs.declared.shape.Profile.{Profile as Shape};
 ghost use Rattle.profile.specs.declared.join.Join.{Join as Pair};
 ghost use Rattle.assignments.specs.Modes.{fits, left_at, right_at, releases, allowed};
@@ -73,7 +73,17 @@ fn offer<T: Tariff>(
     weigh(tariff, sends, mode, master, other, left, right)
 }
 
-// The first of the cheapest options of a mode.
+// The operand that lies at the master.
+fn own_operand(operands: Operands, mode: Mode) -> u16
+    ensures { ((result ≡ operands.left) × ((s u : ℕ) → left_at mode s u ≡ s)) ⊎ ((result ≡ operands.right) × ((s u : ℕ) → right_at mode s u ≡ s)) }
+{
+    match mode {
+        Mode::Local | Mode::LeftMaster | Mode::LeftSemi => operands.left,
+        Mode::RightMaster | Mode::RightSemi => operands.right,
+    }
+}
+
+// The first of the cheapest options of a mode. There is none where the operand that lies at the master has no place there.
 fn best_by<T: Tariff>(
     tariff: &T,
     sends: &Sends,
@@ -85,6 +95,7 @@ fn best_by<T: Tariff>(
     requires { master < table.now.servers }
     ensures { (may : ℕ → Shape → Bool) (j : Pair) → Sent may table.now.servers j sends.now → result ≡ best_of_mode (T.pricing tariff.now) may table.now.servers j (place_at table.now.places.now table.now.servers operands.left) (place_at table.now.places.now table.now.servers operands.right) master mode }
 {
+    table.at(own_operand(operands, mode), master)?;
     cheapest(tariff, table.servers, |other| {
         offer(tariff, sends, table, operands, master, mode, other)
     })

@@ -1,5 +1,5 @@
 -- The query of the tour, its sets and its refusal.
-use Rattle.std.specs.Prelude.{ℕ, List, [], ◌∷◌, Some, None, Ok, Err, Option, Result}
+use Rattle.std.specs.Prelude.{ℕ, [], ◌∷◌, Some, None, Ok, Err, Option, Result}
 use Rattle.sets.specs.Sets.{single, union}
 use Rattle.chart.specs.declared.refusal.ChartRefusal.{ChartRefusal}
 use Rattle.chart.specs.Refusals.{refusal_number}

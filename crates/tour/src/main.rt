@@ -3,14 +3,16 @@
 
 mod parts;
 
-use crate::parts::{Sets, Steps, repeated_link, sample_sets, sample_steps, worked_cases};
-use anyhow::Context;
+use crate::parts::{
+    Sets, Steps, repeated_link, sample_sets, sample_steps, tour_chart, worked_cases,
+};
+use anyhow::{Context, anyhow};
 use chart::Chart;
 use composed::ComposedBook;
 use layers::{Carrier, Denial, Denials};
 use policy::{Book, BookRefusal, Policy};
 use profile::Profile;
-use sample::{ProfileText, SetText, rule, sample_chart};
+use sample::{ProfileText, SetText, rule};
 use sets::SmallSet;
 
 fn show_chart(rt: &HostRuntime, chart: &Chart) -> anyhow::Result<()> {
@@ -93,12 +95,17 @@ fn show_composition(rt: &HostRuntime, book: &mut ComposedBook, sets: &Sets) -> a
 
 // A denial and a carrier over the same book.
 fn show_layers(rt: &HostRuntime, book: ComposedBook, sets: &Sets) -> anyhow::Result<()> {
-    let carried = Carrier::new(book, Some(0))?;
+    // `?` would copy the stack of layers once more, and the tour runs on a stack of 64 KiB.
+    let Ok(carried) = Carrier::new(book, Some(0)) else {
+        return Err(anyhow!("the carrier was refused"));
+    };
     let denial = Denial {
         server: 2,
         attributes: sets.denied,
     };
-    let mut stack = Denials::new(carried, &[denial])?;
+    let Ok(mut stack) = Denials::new(carried, &[denial]) else {
+        return Err(anyhow!("the denial was refused"));
+    };
     show_call(
         rt,
         "rule 3, server 2: 0,3,4 on path 0",
@@ -119,7 +126,7 @@ fn show_layers(rt: &HostRuntime, book: ComposedBook, sets: &Sets) -> anyhow::Res
 
 fn main(rt: HostRuntime) -> anyhow::Result<()> {
     worked_cases();
-    let chart = sample_chart()?;
+    let chart = tour_chart()?;
     let steps = sample_steps(&chart).context("a step was refused")?;
     let refusal = repeated_link(chart).context("a repeated link was accepted")?;
     show_chart(&rt, &chart)?;

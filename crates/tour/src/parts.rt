@@ -1,12 +1,21 @@
 ghost use Rattle.std.specs.Prelude.{◌≡◌, Some};
-ghost use Rattle.chart.specs.Build.{link_answer};
+ghost use Rattle.chart.specs.Build.{link_answer, laid_out};
 ghost use Rattle.chart.specs.Charts.{layout};
+ghost use Rattle.sample.specs.Sample.{sample_answer};
 ghost use Rattle.tour.specs.Parts.{steps_of, refusal_of, sets_of_tour};
 ghost use Rattle.tour.specs.Worked.{Worked};
 
-use chart::Chart;
+use chart::{Chart, ChartRefusal};
 use profile::{Join, Profile, Side};
+use sample::sample_chart;
 use sets::SmallSet;
+
+// The chart of the tour: three servers with a relation each, and two links.
+pub fn tour_chart() -> Result<Chart, ChartRefusal>
+    ensures { laid_out result ≡ sample_answer }
+{
+    sample_chart()
+}
 
 // The profiles of a small query, from the leaves up.
 #[derive(Clone, Copy)]
