@@ -20,6 +20,7 @@ use Rattle.policy.specs.Reading.{granted}
 use Rattle.policy.specs.Books.{apart}
 use Rattle.books.specs.Slots.{held, exact_fits}
 use Rattle.books.proofs.Held.{absent}
+use Rattle.books.proofs.Entering.{entry_free}
 use Rattle.composed.specs.Composed.{composed_members, composed_fits}
 use Rattle.composed.specs.Books.{members_same}
 use Rattle.composed.specs.Kept.{Kept}
@@ -40,11 +41,6 @@ as_asked (Err x) n a b h = absurd (let z : ◌≡◌ {A = ℕ} 0 1 = cc in omega
 as_asked (Ok r) true a b h = absurd (let z : ◌≡◌ {A = ℕ} 0 1 = cc in omega arith)
 as_asked (Ok r) false true b h = cc
 as_asked (Ok r) false false b h = absurd (let z : ◌≡◌ {A = ℕ} 0 1 = cc in omega arith)
-
-was_free : (o : Result RuleRecord RuleRefusal) (n a : Bool) → Ok tt ≡ answered o n a → n ≡ false
-was_free (Err x) n a h = absurd (let z : ◌≡◌ {A = ℕ} 0 1 = cc in omega arith)
-was_free (Ok r) true a h = absurd (let z : ◌≡◌ {A = ℕ} 0 1 = cc in omega arith)
-was_free (Ok r) false a h = refl
 
 -- what is kept is kept where the same rules stand in another order
 pub kept_alike : (c d : Chart) (slots others : List (Option Rule)) (table : List View) (n : ℕ) → d ≡ c → length others ≡ 64 → apart (held others) ≡ true → list_all (well_formed (layout d)) (held others) ≡ true
@@ -75,26 +71,29 @@ module _ (c : Chart) (rules : List RuleRecord) (given : RuleRecord) where
         ap (λ x. cond x (Ok tt) (Err Full)) (sym h)
         ∙ as_asked (rule_answer (layout c) given) (in_force given.number rules) (exact_fits (given ∷ rules)) (leb (length (composed_members (layout c) (given ∷ rules))) 256) taken
 
-    pub too_many_members : 256 < length (composed_members (layout c) after) → Err Full ≡ entry_answer (layout c) (composed_fits (layout c)) rules given
-    too_many_members many =
-        let e = members_same c after (given ∷ rules) joined in
-        asked_alike false (lt-leb (length (composed_members (layout c) (given ∷ rules))) 256 (omega arith))
+    -- d is the chart afterwards, which is the one before
+    module _ (d : Chart) (kept : d ≡ c) where
+      pub too_many_members : 256 < length (composed_members (layout d) after) → Err Full ≡ entry_answer (layout c) (composed_fits (layout c)) rules given
+      too_many_members many =
+          let here : 256 < length (composed_members (layout c) after) = subst (λ (x : Chart). 256 < length (composed_members (layout x) after)) kept many in
+          let e = members_same c after (given ∷ rules) joined in
+          asked_alike false (lt-leb (length (composed_members (layout c) (given ∷ rules))) 256 (omega arith))
 
-    pub few_members : length (composed_members (layout c) after) ≤ 256 → Ok tt ≡ entry_answer (layout c) (composed_fits (layout c)) rules given
-    few_members few =
-        let e = members_same c after (given ∷ rules) joined in
-        asked_alike true (le-leb (length (composed_members (layout c) (given ∷ rules))) 256 (omega arith))
+      pub few_members : length (composed_members (layout d) after) ≤ 256 → Ok tt ≡ entry_answer (layout c) (composed_fits (layout c)) rules given
+      few_members few =
+          let here : length (composed_members (layout c) after) ≤ 256 = subst (λ (x : Chart). length (composed_members (layout x) after) ≤ 256) kept few in
+          let e = members_same c after (given ∷ rules) joined in
+          asked_alike true (le-leb (length (composed_members (layout c) (given ∷ rules))) 256 (omega arith))
 
-    pub entered : length (composed_members (layout c) after) ≤ 256 → Same after (entry_list (layout c) (composed_fits (layout c)) rules given)
-    entered few = subst (λ (a : Result (Unit {0}) BookRefusal). Same after (rules_after a rules (given ∷ rules))) (few_members few) joined
+      pub entered : length (composed_members (layout d) after) ≤ 256 → Same after (entry_list (layout c) (composed_fits (layout c)) rules given)
+      entered few = subst (λ (a : Result (Unit {0}) BookRefusal). Same after (rules_after a rules (given ∷ rules))) (few_members few) joined
 
     -- a rule that has just come leaves the rules as they were
     pub left_again : (back : List RuleRecord) → Same back (withdrawal_list after given.number) → Same back rules
     left_again back h =
-        let free : in_force given.number rules ≡ false = was_free (rule_answer (layout c) given) (in_force given.number rules) (exact_fits (given ∷ rules)) taken in
         let gone : withdrawal_list (given ∷ rules) given.number ≡ withdrawal_list rules given.number =
         ap (λ b. cond (not b) (given ∷ withdrawal_list rules given.number) (withdrawal_list rules given.number)) (eq-eqb given.number given.number refl) in
-        chain h (chain (same_kept (λ r. not (r.number == given.number)) joined) (same_equal (gone ∙ absent rules given.number free)))
+        chain h (chain (same_kept (λ r. not (r.number == given.number)) joined) (same_equal (gone ∙ absent rules given.number (entry_free (layout c) rules given (sym taken)))))
 
 -- a refused withdrawal takes no rule
 pub not_withdrawn : (rules : List RuleRecord) (n : ℕ) (e : BookRefusal) → Err e ≡ withdrawal_answer rules n → Same rules (withdrawal_list rules n)

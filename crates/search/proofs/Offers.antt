@@ -18,6 +18,21 @@ module _ {P : Type 0} (c : Pricing P) (open_to : Bool) (m : Mode) (u : ℕ) (own
   pub weighed_open : (x y : Place P) → open_to ≡ true → weighed c open_to m u own (Some x) (Some y) ≡ Some (holding (c.sum (c.sum x.price y.price) own) m u)
   weighed_open x y h = rw h
 
+  pub weighed_no_left : (x y : Option (Place P)) → x ≡ None → weighed c open_to m u own x y ≡ None
+  weighed_no_left x y h = ap (λ (z : Option (Place P)). weighed c open_to m u own z y) h ∙ shut open_to
+    where
+      shut : (b : Bool) → weighed c b m u own None y ≡ None
+      shut false = refl
+      shut true = refl
+
+  pub weighed_no_right : (x y : Option (Place P)) → y ≡ None → weighed c open_to m u own x y ≡ None
+  weighed_no_right x y h = ap (λ (z : Option (Place P)). weighed c open_to m u own x z) h ∙ shut open_to x
+    where
+      shut : (b : Bool) (z : Option (Place P)) → weighed c b m u own z None ≡ None
+      shut false z = refl
+      shut true None = refl
+      shut true (Some z) = refl
+
 -- the option of a mode at the server i
 module _ {P : Type 0} (c : Pricing P) (may : ℕ → Profile → Bool) (n : ℕ) (j : Join) (L R : ℕ → Option (Place P)) (s : ℕ) (m : Mode) (i : ℕ) where
   abbrev sent : List Release
@@ -34,15 +49,7 @@ module _ {P : Type 0} (c : Pricing P) (may : ℕ → Profile → Bool) (n : ℕ)
       let right : R (right_at m s i) ≡ Some y = sym (eq ∙ ap R rv) ∙ qy in
       ew ∙ sym (ap₂ (weighed c ready m i (own_price c sent)) left right)
 
-no_left : {P : Type 0} (c : Pricing P) (b : Bool) (m : Mode) (u : ℕ) (own : P) (y : Option (Place P)) → weighed c b m u own None y ≡ None
-no_left c false m u own y = refl
-no_left c true m u own y = refl
-
-no_right : {P : Type 0} (c : Pricing P) (b : Bool) (m : Mode) (u : ℕ) (own : P) (x : Option (Place P)) → weighed c b m u own x None ≡ None
-no_right c false m u own x = refl
-no_right c true m u own None = refl
-no_right c true m u own (Some x) = refl
-
+-- of offers that are all empty none is the cheapest
 none_cheapest : {X P : Type 0} (leq : P → P → Bool) (key : X → P) (f : ℕ → Option X) (n : ℕ) → ((i : ℕ) → f i ≡ None) → cheapest leq key f n ≡ None
 unfolding cheapest
 none_cheapest leq key f zero h = refl
@@ -59,9 +66,9 @@ module _ {P : Type 0} (c : Pricing P) (may : ℕ → Profile → Bool) (n : ℕ)
   pub none_left : ((t u : ℕ) → left_at m t u ≡ t) → L s ≡ None → best_of_mode c may n j L R s m ≡ None
   none_left at h =
       none_cheapest c.leq (λ p. p.price) (offer c may n j L R s m) n
-      (λ i. ap (λ x. weighed c (ready_at i) m i (price_at i) x (R (right_at m s i))) (ap L (at s i) ∙ h) ∙ no_left c (ready_at i) m i (price_at i) (R (right_at m s i)))
+      (λ i. weighed_no_left c (ready_at i) m i (price_at i) (L (left_at m s i)) (R (right_at m s i)) (ap L (at s i) ∙ h))
 
   pub none_right : ((t u : ℕ) → right_at m t u ≡ t) → R s ≡ None → best_of_mode c may n j L R s m ≡ None
   none_right at h =
       none_cheapest c.leq (λ p. p.price) (offer c may n j L R s m) n
-      (λ i. ap (weighed c (ready_at i) m i (price_at i) (L (left_at m s i))) (ap R (at s i) ∙ h) ∙ no_right c (ready_at i) m i (price_at i) (L (left_at m s i)))
+      (λ i. weighed_no_right c (ready_at i) m i (price_at i) (L (left_at m s i)) (R (right_at m s i)) (ap R (at s i) ∙ h))

@@ -1,12 +1,11 @@
-use Rattle.std.proofs.Common.{◌<◌, ◌≤◌, length, subst, ◌∙◌, arith}
-use Rattle.chart.specs.declared.state.Chart.{Chart}
+use Rattle.std.proofs.Common.{◌∙◌, arith}
 use Rattle.chart.specs.Charts.{layout}
 use Rattle.policy.specs.declared.refusal.BookRefusal.TheVariants.{Full}
 use Rattle.policy.specs.Same.{chain}
 use Rattle.policy.proofs.Orders.{same_sym}
 use Rattle.policy.proofs.Entered.{refused_after}
 use Rattle.books.specs.Slots.{held, exact_fits}
-use Rattle.composed.specs.Composed.{composed_members, composed_fits}
+use Rattle.composed.specs.Composed.{composed_fits}
 use Rattle.composed.proofs.Calls.{kept_alike, too_many_members, few_members, entered, left_again}
 use Rattle.composed.proofs.entries.enter_rule.Goals as goal
 
@@ -30,33 +29,27 @@ pub returns-in_default-clause-answer : goal.returns-in_default-clause-answer
 returns-in_default-clause-answer c =
     let book = c.args.exact.now in
     let more = c.enter.new.self in
-    let many : 256 < length (composed_members (layout book.chart) (held more.slots)) =
-    subst (λ (x : Chart). 256 < length (composed_members (layout x) (held more.slots))) c.in_ok-enter.ensures.chart c.in_default.ensures in
-    too_many_members book.chart (held book.slots) c.args.given (held more.slots) c.in_ok-enter.ensures.answer c.in_ok-enter.ensures.after many
+    too_many_members book.chart (held book.slots) c.args.given (held more.slots) c.in_ok-enter.ensures.answer c.in_ok-enter.ensures.after more.chart c.in_ok-enter.ensures.chart c.in_default.ensures
 
 pub returns-in_default-clause-after : goal.returns-in_default-clause-after
 returns-in_default-clause-after c =
     let book = c.args.exact.now in
     let more = c.enter.new.self in
-    let back = c.withdraw.new.self in
-    let many : 256 < length (composed_members (layout book.chart) (held more.slots)) =
-    subst (λ (x : Chart). 256 < length (composed_members (layout x) (held more.slots))) c.in_ok-enter.ensures.chart c.in_default.ensures in
-    let left = left_again book.chart (held book.slots) c.args.given (held more.slots) c.in_ok-enter.ensures.answer c.in_ok-enter.ensures.after (held back.slots) c.withdraw.ensures.after in
-    chain left (refused_after (layout book.chart) (composed_fits (layout book.chart)) (held book.slots) c.args.given Full
-    (too_many_members book.chart (held book.slots) c.args.given (held more.slots) c.in_ok-enter.ensures.answer c.in_ok-enter.ensures.after many))
+    let rules = held book.slots in
+    let left = left_again book.chart rules c.args.given (held more.slots) c.in_ok-enter.ensures.answer c.in_ok-enter.ensures.after (held c.withdraw.new.self.slots) c.withdraw.ensures.after in
+    let full = too_many_members book.chart rules c.args.given (held more.slots) c.in_ok-enter.ensures.answer c.in_ok-enter.ensures.after more.chart c.in_ok-enter.ensures.chart c.in_default.ensures in
+    chain left (refused_after (layout book.chart) (composed_fits (layout book.chart)) rules c.args.given Full full)
 
 pub returns-clause-answer : goal.returns-clause-answer
 returns-clause-answer c =
     let book = c.args.exact.now in
     let more = c.enter.new.self in
-    let few : length (composed_members (layout book.chart) (held more.slots)) ≤ 256 =
-    subst (λ (x : Chart). length (composed_members (layout x) (held more.slots)) ≤ 256) c.in_ok-enter.ensures.chart (omega (arith, c.in-Some.ensures.fits, c.in-Some.ensures.all)) in
-    few_members book.chart (held book.slots) c.args.given (held more.slots) c.in_ok-enter.ensures.answer c.in_ok-enter.ensures.after few
+    few_members book.chart (held book.slots) c.args.given (held more.slots) c.in_ok-enter.ensures.answer c.in_ok-enter.ensures.after more.chart c.in_ok-enter.ensures.chart
+    (omega (arith, c.in-Some.ensures.fits, c.in-Some.ensures.all))
 
 pub returns-clause-after : goal.returns-clause-after
 returns-clause-after c =
     let book = c.args.exact.now in
     let more = c.enter.new.self in
-    let few : length (composed_members (layout book.chart) (held more.slots)) ≤ 256 =
-    subst (λ (x : Chart). length (composed_members (layout x) (held more.slots)) ≤ 256) c.in_ok-enter.ensures.chart (omega (arith, c.in-Some.ensures.fits, c.in-Some.ensures.all)) in
-    entered book.chart (held book.slots) c.args.given (held more.slots) c.in_ok-enter.ensures.answer c.in_ok-enter.ensures.after few
+    entered book.chart (held book.slots) c.args.given (held more.slots) c.in_ok-enter.ensures.answer c.in_ok-enter.ensures.after more.chart c.in_ok-enter.ensures.chart
+    (omega (arith, c.in-Some.ensures.fits, c.in-Some.ensures.all))
